@@ -1,0 +1,20 @@
+-- The search as document 01 defines it, by subject, in the order of reading.
+pub mod Tables
+pub mod Moments
+pub mod Lists
+pub mod Spans
+pub mod State
+pub mod Applying
+pub mod Legs
+pub mod Choosing
+pub mod Rides
+pub mod Footpaths
+pub mod Round
+pub mod Search
+pub mod Back
+pub mod Bytes
+pub mod Places
+pub mod Answer
+pub mod Left
+pub mod Journey
+pub mod Sound

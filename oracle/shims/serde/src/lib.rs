@@ -1,0 +1,6 @@
+//! Stand-in: derives that do nothing (nothing is serialised).
+use proc_macro::TokenStream;
+#[proc_macro_derive(Serialize)]
+pub fn s(_: TokenStream) -> TokenStream { TokenStream::new() }
+#[proc_macro_derive(Deserialize)]
+pub fn d(_: TokenStream) -> TokenStream { TokenStream::new() }
