@@ -1,7 +1,8 @@
 -- Network N is sound, and N1's task is asked within it, so that no theorem on sound tables is about nothing. The rules are tests that compute.
 use Prim.Native.Nat.{ℕ, zero, suc, _-_, _≤_, _<_}
-use mathlib.Core.Path.{_≡_}
+use mathlib.Core.Path.{_≡_, subst}
 use mathlib.Core.Bool.{Bool, true, false, _&&_}
+use mathlib.Core.Option.{Option, none, some}
 use mathlib.Core.List.{List, [], _∷_, List·Memᴰ, List·Memᴰ·head, List·Memᴰ·tail, List·Memᴰ·not-nil}
 use native.Mathlib.Omega.{arith}
 use native.Mathlib.Decide.{ℕ-discrete}
@@ -75,7 +76,9 @@ N-sound = record {
       ltb→lt _ _
       (below-at (N .positions r) (λ p. ltb (N .stopAt r p) 5) (below-at 2 (λ r. below (N .positions r) λ p. ltb (N .stopAt r p) 5) tt r hr) p hp);
   feet-in = feet;
-  children-in = λ s c m. absurd (List·Memᴰ·not-nil m);
+  station-in = λ s p h e. absurd (no-station e);
+  children-in = λ s c h m. absurd (List·Memᴰ·not-nil m);
+  areas-in = λ a s h m. absurd (List·Memᴰ·not-nil m);
   from-one = λ r i p hr hi hp. ltb→lt _ _ (timetable-at 0 (λ r i p. ltb 0 (N .arrival (N .tripAt r i) p)) tt r i p hr hi (omega arith));
   to-million = λ r i p hr hi hp.
       leb→le _ _ (timetable-at 0 (λ r i p. leb (N .departure (N .tripAt r i) p) 1_000_000) tt r i p hr hi (omega arith));
@@ -87,13 +90,20 @@ N-sound = record {
       (timetable-at 1 (λ r i p. leb (N .departure (N .tripAt r i) p) (N .arrival (N .tripAt r i) (suc p))) tt r i p hr hi (omega arith));
 }
   where
-    feet : (c : LegType) (s : ℕ) (f : Foot) → List·Memᴰ f (listedUnder N c s) → f .to < 5
-    feet (Transit v) s f m = absurd (List·Memᴰ·not-nil m)
-    feet Transfer s f m =
+    no-station : {p : ℕ} → _≡_ {A = Option ℕ} none (some p) → ⊥
+    no-station e = subst code e tt
+      where
+        code : Option ℕ → Type 0
+        code none = Unit {0}
+        code (some x) = ⊥
+
+    feet : (c : LegType) (s : ℕ) (f : Foot) → s < 5 → List·Memᴰ f (listedUnder N c s) → f .to < 5
+    feet (Transit v) s f h m = absurd (List·Memᴰ·not-nil m)
+    feet Transfer s f h m =
         ltb→lt _ _
         (each-at (λ f. ltb (f .to) 5) (N .transfers s)
         (eachList-getD (λ f. ltb (f .to) 5) ([] ∷ [] ∷ (record { to = 3; span = 30 } ∷ []) ∷ [] ∷ []) s tt) f m)
-    feet Walk s f m = absurd (List·Memᴰ·not-nil m)
+    feet Walk s f h m = absurd (List·Memᴰ·not-nil m)
 
 pub N1-asked : Asked N (task Departure Source true (0 ∷ []) (4 ∷ []) 50)
 unfolding N N-with net

@@ -2,8 +2,7 @@
 -- untouched by a refusal, and "On 0 bytes past the journey stay unchanged."
 use Prim.Native.Nat.{ℕ, _-_}
 use mathlib.Core.Bool.{Bool}
-use mathlib.Core.Option.{Option}
-use mathlib.Core.List.{List, [], _∷_, _++_}
+use mathlib.Core.List.{List, _++_}
 use lib.ListN.{length, drop, replicate}
 use Rattle.model.specs.declared.Answer.{Answer}
 use Rattle.model.specs.declared.Answer.the-variants.{Found, Refused, NoRouteFound, FailedToBuildRoute, TooLong}
@@ -13,22 +12,14 @@ use Rattle.model.specs.declared.Location.the-variants.{Stop, Area}
 use Rattle.model.specs.declared.Query.{Query}
 use Rattle.model.specs.Tables.{Net}
 use Rattle.model.specs.State.{State}
+use Rattle.model.specs.Work.{Work, workOf}
 use Rattle.model.specs.Places.{stopsOfArea}
 use Rattle.model.specs.Bytes.{write}
 use Rattle.model.specs.Answer.{lowest, searched, legsOf, unless, answer}
 
--- the workspace: of each stop the labels and marks, of each route its mark and whether the last round scanned it, the parents, and the
--- stops of the areas that the query names
+-- the workspace: the search's part, and the stops of the areas that the query names
 pub record Workspace : Type 0 where
-  pub prev : List ℕ
-  pub curr : List ℕ
-  pub best : List ℕ
-  pub held : List ℕ
-  pub mark : List Bool
-  pub heldMark : List Bool
-  pub active : List ℕ
-  pub mask : List Bool
-  pub parents : List (Option Leg)
+  pub work : Work
   pub origins : List ℕ
   pub goals : List ℕ
 
@@ -38,19 +29,7 @@ placed n (Stop s) = replicate (n .stops) 0
 placed n (Area a) = stopsOfArea n a ++ replicate (n .stops - length (stopsOfArea n a)) 0
 
 unfoldable pub workspaceOf : Net → Query → State → Workspace
-workspaceOf n q s = record {
-  prev = s .times .prev;
-  curr = s .times .labels .curr;
-  best = s .times .labels .best;
-  held = s .times .held;
-  mark = s .times .labels .mark;
-  heldMark = s .times .heldMark;
-  active = s .times .active;
-  mask = s .times .mask;
-  parents = s .parents;
-  origins = placed n (q .from);
-  goals = placed n (q .to);
-}
+workspaceOf n q s = record { work = workOf s; origins = placed n (q .from); goals = placed n (q .to) }
 
 unfoldable pub workspaceLeft : ℕ → Bool → Net → Query → Workspace → Workspace
 workspaceLeft fault sized n q w = unless (λ k. w) (workspaceOf n q (searched n q)) (lowest fault sized n q)
