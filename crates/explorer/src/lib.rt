@@ -1,0 +1,1 @@
+// The four half-rounds and the choosing.
