@@ -9,6 +9,8 @@ use native.Mathlib.Omega.{arith}
 use native.Mathlib.Nat.{zero-add}
 use lib.ListN.{length, getD, getD-replicate}
 use Rattle.base.specs.Each.{Each, each-perm, each-map}
+use Rattle.model.specs.declared.Direction.{Direction}
+use Rattle.model.specs.declared.Direction.the-variants.{Departure, Arrival}
 use Rattle.model.specs.declared.Leg.{Leg}
 use Rattle.model.specs.declared.LegType.{LegType}
 use Rattle.model.specs.declared.LegType.the-variants.{Transit, Transfer, Walk}
@@ -104,7 +106,7 @@ record Win (P : Proposal → Type 0) (w : List (Option Leg)) (row s m : ℕ) : T
 
 module _ (n : Net) (ok : Sound n) (q : Task) (o : Order) (fair : Fair o) (k : ℕ) (t : Times) (w : List (Option Leg)) where
   -- the times and the parents after the rides, and after the footpaths
-  abbrev T₁ : Times
+  abbrev pub T₁ : Times
   T₁ = ridden n q o k t
 
   abbrev pub T₂ : Times
@@ -160,7 +162,7 @@ module _ (n : Net) (ok : Sound n) (q : Task) (o : Order) (fair : Fair o) (k : �
         go (won p hp e a b mk c) = b ∙ sym a
 
     -- a stop that the rides marked has a label
-    marked : Each (λ s. (s < n .stops) × (0 < getD (T₁ .labels .curr) s 0)) (setIn 0 (T₁ .labels .mark))
+    pub marked : Each (λ s. (s < n .stops) × (0 < getD (T₁ .labels .curr) s 0)) (setIn 0 (T₁ .labels .mark))
     marked =
         setIn-each _ 0 (T₁ .labels .mark)
         (λ j h e. rw (zero-add j) (let i = rw ((ridden-whole n q o k t z) .marks) at h in (i, go j i e (ride-cell j i))))
@@ -168,6 +170,24 @@ module _ (n : Net) (ok : Sound n) (q : Task) (o : Order) (fair : Fair o) (k : �
         go : (s : ℕ) → s < n .stops → getD (T₁ .labels .mark) s false ≡ true → RideCell s → 0 < getD (T₁ .labels .curr) s 0
         go s i e (kept a b m c) = absurd (false≢true (sym (unmarked s i) ∙ sym m ∙ e))
         go s i e (won p hp x a b mk c) = rw a (better-pos (q .direction) (p .moment) _ (hp .fresh))
+
+    -- a ride's moment is a timetable's
+    ride-moment : (d : Direction) (g : Leg) → Ridden n g → farAt d g ≤ 1_000_000
+    ride-moment Departure g r =
+        let stays = ok .stays (r .route) (r .place) (r .alights) (r .routes) (r .trips) (r .within) in
+        let top = ok .to-million (r .route) (r .place) (r .alights) (r .routes) (r .trips) (r .within) in
+        rw (r .arrival) (omega (arith, stays, top))
+    ride-moment Arrival g r =
+        let within : r .boards < n .positions (r .route) = omega (arith, r .onward, r .within) in
+        rw (r .departure) (ok .to-million (r .route) (r .place) (r .boards) (r .routes) (r .trips) within)
+
+    -- and so is every label that the rides leave
+    pub ridden-bound : (s : ℕ) → s < n .stops → getD (T₁ .labels .curr) s 0 ≤ 1_000_000
+    ridden-bound s i = go (ride-cell s i)
+      where
+        go : RideCell s → getD (T₁ .labels .curr) s 0 ≤ 1_000_000
+        go (kept a b m c) = omega (arith, a, none-yet s i)
+        go (won p hp e a b mk c) = rw (a, ← (hp .moment)) (ride-moment (q .direction) (p .leg) (hp .ridden))
 
     went-each : Each (Went (q .direction) n (q .walking) T₁) (o k walking (footHalf n q T₁))
     unfolding footHalf
