@@ -27,7 +27,9 @@ use Rattle.model.specs.Work.{Work, workOf}
 use Rattle.model.proofs.Better.{Improves, better-than, beaten}
 use Rattle.model.proofs.Applied.{apply1-on, apply1-off}
 use Rattle.model.proofs.Choosing.{getD-set-or}
-use Rattle.explorer.specs.Applied.{with, applied, holding, openedWork}
+use Rattle.allocator.specs.Operations.{applied, holding}
+use Rattle.allocator.specs.Parts.{withHeld, withHeldMark}
+use Rattle.explorer.specs.Applied.{with, openedWork}
 use Rattle.explorer.specs.Fused.{offered, alightWork, scanWork, routeWork, routesWork, ridesWork, footWork, pathsWork, stopWork, stopsWork, feetWork}
 
 -- lists of proposals joined
@@ -195,7 +197,7 @@ pub feet-fused : (d : Direction) (n : Net) (k : ℕ) (walking : Bool) (s : State
     → feetWork d n k (s .times .target .time .0) walking (holding (workOf s))
     ≡ with (holding (workOf s)) (applyAll d (footpaths d n walking (s .times)) (s .times .labels))
     (keepAll d (k * n .stops) (footpaths d n walking (s .times)) (s .times .labels) (s .parents))
-unfolding feetWork footpaths
+unfolding feetWork footpaths holding withHeld withHeldMark
 feet-fused d n k walking s =
     stops-is d n k (s .times) walking (setIn 0 (s .times .labels .mark)) (holding (workOf s)) (level d (s .times .labels)) refl
 
@@ -204,7 +206,7 @@ pub round-fused : (n : Net) (q : Task) (k : ℕ) (s : State)
     → let target = s .times .target .time .0 in
     workOf (round n q listed k s)
     ≡ feetWork (q .direction) n k target (q .walking) (holding (ridesWork (q .direction) n k target (openedWork n q (workOf s))))
-unfolding round roundTimes roundParents riddenParents aimed footed ridden rideHalf footHalf listed openedWork opened picks
+unfolding round roundTimes roundParents riddenParents aimed footed ridden rideHalf footHalf listed openedWork opened picks holding withHeld withHeldMark
 round-fused n q k s =
     let d = q .direction in
     let s₁ : State = record { times = opened n q (s .times); parents = s .parents } in

@@ -16,22 +16,6 @@ abbrev pub with : Work → Labels → List (Option Leg) → Work
 with w l ps =
     record { prev = w .prev; labels = l; held = w .held; heldMark = w .heldMark; active = w .active; mask = w .mask; parents = ps }
 
-unfoldable pub applied : Direction → ℕ → ℕ → ℕ → Leg → Work → Work
-applied d row s m g w =
-    with w (apply1 d s m (w .labels)) (cond (wins d s m (w .labels)) (set (w .parents) (row + s) (some g)) (w .parents))
-
--- the labels and marks that the rides left are held
-abbrev pub holding : Work → Work
-holding w = record {
-  prev = w .prev;
-  labels = w .labels;
-  held = w .labels .curr;
-  heldMark = w .labels .mark;
-  active = w .active;
-  mask = w .mask;
-  parents = w .parents;
-}
-
 -- the labels swapped, the routes chosen, the marks cleared: the model's `opened`, which does not read the target
 unfoldable pub openedWork : Net → Task → Work → Work
 unfolding opened

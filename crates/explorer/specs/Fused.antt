@@ -17,7 +17,7 @@ use Rattle.model.specs.Legs.{legOf}
 use Rattle.model.specs.Rides.{reach, leave, board, course}
 use Rattle.model.specs.Footpaths.{walked}
 use Rattle.model.specs.Work.{Work}
-use Rattle.explorer.specs.Applied.{applied}
+use Rattle.allocator.specs.Operations.{applied}
 
 -- a proposal for stop s at m by leg g, where the target has seen `target`
 unfoldable pub offered : Direction → ℕ → ℕ → ℕ → ℕ → Leg → Work → Work

@@ -4,3 +4,6 @@ pub mod Laid
 pub mod Listed
 pub mod Checked
 pub mod Accepted
+pub mod Rows
+pub mod Entries
+pub mod Station

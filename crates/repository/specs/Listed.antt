@@ -1,4 +1,5 @@
--- Number 2: "an index out of range, or a list breaking a listing rule". Tested on laid tables.
+-- Number 2: "an index out of range, or a list breaking a listing rule". Tested on laid tables. Each test of one number or one row has a name,
+-- so that the code that makes it can say so.
 use Prim.Native.Nat.{ℕ, _+_, _-_, _*_}
 use mathlib.Core.Bool.{Bool, true, false, cond, _&&_, _||_}
 use mathlib.Core.List.{List, [], _∷_}
@@ -9,47 +10,84 @@ use Rattle.model.specs.Moments.{MAX}
 use Rattle.repository.specs.Sections.{size, sec, stops, routes, trips, areas, rows}
 use Rattle.repository.specs.NetOf.{count}
 
+-- i does not pass
+unfoldable pub fails : (ℕ → Bool) → ℕ → Bool
+fails f i = cond (f i) false true
+
 -- some number from a up to b passes
 unfoldable pub some : (ℕ → Bool) → ℕ → ℕ → Bool
-unfolding all
-some f a b = cond (all (λ i. cond (f i) false true) a b) false true
+some f a b = cond (all (fails f) a b) false true
+
+-- t is one of the words a, .., b - 1 of section k
+unfoldable pub among : List ℕ → ℕ → ℕ → ℕ → ℕ → Bool
+among w k a b t = some (λ j. eqb (sec w k j) t) a b
+
+-- word i of section k is none of the words a, .., i - 1
+unfoldable pub fresh : List ℕ → ℕ → ℕ → ℕ → Bool
+fresh w k a i = cond (among w k a i (sec w k i)) false true
 
 -- no two of the words a, .., b - 1 of section k are the same
 unfoldable pub distinct : List ℕ → ℕ → ℕ → ℕ → Bool
-unfolding some
-distinct w k a b = all (λ i. cond (some (λ j. eqb (sec w k j) (sec w k i)) a i) false true) a b
+distinct w k a b = all (fresh w k a) a b
+
+-- word i of section k is an index below n
+unfoldable pub indexed : List ℕ → ℕ → ℕ → ℕ → Bool
+indexed w k n i = ltb (sec w k i) n
+
+-- all are
+unfoldable pub inRange : List ℕ → ℕ → ℕ → Bool
+inRange w k n = all (indexed w k n) 0 (size w k)
 
 -- the rows of entry i of the starts section k pass
-unfoldable pub under : List ℕ → ℕ → (ℕ → Bool) → ℕ → Bool
-under w k f i = all f (sec w k i) (sec w k (i + 1))
+unfoldable pub under : List ℕ → ℕ → (ℕ → ℕ → Bool) → ℕ → Bool
+under w k f i = all (f i) (sec w k i) (sec w k (i + 1))
 
 -- "The lent stop list holds s at place s."
+unfoldable pub inPlace : List ℕ → ℕ → Bool
+inPlace w s = eqb (sec w 0 s) s
+
 unfoldable pub stopList : List ℕ → Bool
-stopList w = all (λ s. eqb (sec w 0 s) s) 0 (stops w)
+stopList w = all (inPlace w) 0 (stops w)
 
 -- "A stop may have a parent station"
+unfoldable pub station : List ℕ → ℕ → Bool
+station w s = eqb (sec w 1 s) MAX || ltb (sec w 1 s) (stops w)
+
 unfoldable pub stations : List ℕ → Bool
-stations w = all (λ s. eqb (sec w 1 s) MAX || ltb (sec w 1 s) (stops w)) 0 (stops w)
+stations w = all (station w) 0 (stops w)
+
+-- row j of the children, under station p, is a stop naming it
+unfoldable pub child : List ℕ → ℕ → ℕ → Bool
+child w p j = ltb (sec w 3 j) (stops w) && eqb (sec w 1 (sec w 3 j)) p
+
+-- a stop that names a station is a child
+unfoldable pub ofStation : List ℕ → ℕ → Bool
+ofStation w s = eqb (sec w 1 s) MAX || among w 3 0 (size w 3) s
 
 -- "the station's children list contains exactly the stops naming it, once each"
+unfoldable pub childrenName : List ℕ → Bool
+childrenName w = all (under w 2 (child w)) 0 (stops w)
+
+unfoldable pub childrenAll : List ℕ → Bool
+childrenAll w = all (ofStation w) 0 (stops w)
+
 unfoldable pub children : List ℕ → Bool
-children w =
-    all (λ p. under w 2 (λ j. ltb (sec w 3 j) (stops w) && eqb (sec w 1 (sec w 3 j)) p) p) 0 (stops w)
-    && distinct w 3 0 (size w 3)
-    && all (λ s. eqb (sec w 1 s) MAX || some (λ j. eqb (sec w 3 j) s) 0 (size w 3)) 0 (stops w)
+children w = childrenName w && distinct w 3 0 (size w 3) && childrenAll w
 
 -- indices of the routes: stops, and trips
 unfoldable pub routeStops : List ℕ → Bool
-routeStops w = all (λ i. ltb (sec w 12 i) (stops w)) 0 (size w 12)
+routeStops w = inRange w 12 (stops w)
 
 -- "Each trip stands in exactly one route": as many as there are trips, each once
 unfoldable pub routeTrips : List ℕ → Bool
-unfolding distinct
-routeTrips w = all (λ i. ltb (sec w 14 i) (trips w)) 0 (size w 14) && distinct w 14 0 (size w 14)
+routeTrips w = inRange w 14 (trips w) && distinct w 14 0 (size w 14)
 
 -- "and has one stop time per position, shared with no other trip"
+unfoldable pub timeEach : List ℕ → ℕ → ℕ → Bool
+timeEach w r i = eqb (count w 15 (sec w 14 i)) (count w 11 r)
+
 unfoldable pub tripTimes : List ℕ → Bool
-tripTimes w = all (λ r. under w 13 (λ i. eqb (count w 15 (sec w 14 i)) (count w 11 r)) r) 0 (routes w)
+tripTimes w = all (under w 13 (timeEach w)) 0 (routes w)
 
 -- row j of the calls, under stop s, names a route in which the stop stands at the first and the last position that it names
 unfoldable pub call : List ℕ → ℕ → ℕ → Bool
@@ -58,38 +96,79 @@ call w s j =
     ltb r (routes w) && ltb (sec w 5 (j * 3 + 1)) (count w 11 r) && ltb (sec w 5 (j * 3 + 2)) (count w 11 r)
     && eqb (sec w 12 (sec w 11 r + sec w 5 (j * 3 + 1))) s && eqb (sec w 12 (sec w 11 r + sec w 5 (j * 3 + 2))) s
 
+-- row j names a later route than the row before
+unfoldable pub later : List ℕ → ℕ → Bool
+later w j = ltb (sec w 5 ((j - 1) * 3)) (sec w 5 (j * 3))
+
+unfoldable pub ascending : List ℕ → ℕ → Bool
+ascending w s = all (later w) (sec w 4 s + 1) (sec w 4 (s + 1))
+
 -- row j names route r, and position p is neither before the first nor after the last position that it names
 unfoldable pub calls : List ℕ → ℕ → ℕ → ℕ → Bool
 calls w r p j = eqb (sec w 5 (j * 3)) r && leb (sec w 5 (j * 3 + 1)) p && leb p (sec w 5 (j * 3 + 2))
 
+-- a row of the stop at position p of route r does so
+unfoldable pub called : List ℕ → ℕ → ℕ → Bool
+called w r p = let s = sec w 12 (sec w 11 r + p) in some (calls w r p) (sec w 4 s) (sec w 4 (s + 1))
+
+unfoldable pub calledAlong : List ℕ → ℕ → Bool
+calledAlong w r = all (called w r) 0 (count w 11 r)
+
 -- "A stop's route list names exactly the routes that contain it, once each, ascending."
+unfoldable pub callsHold : List ℕ → Bool
+callsHold w = all (under w 4 (call w)) 0 (stops w)
+
+unfoldable pub callsRise : List ℕ → Bool
+callsRise w = all (ascending w) 0 (stops w)
+
+unfoldable pub callsAll : List ℕ → Bool
+callsAll w = all (calledAlong w) 0 (routes w)
+
 unfoldable pub stopRoutes : List ℕ → Bool
-unfolding some
-stopRoutes w =
-    all (λ s. under w 4 (call w s) s) 0 (stops w)
-    && all (λ s. all (λ j. ltb (sec w 5 ((j - 1) * 3)) (sec w 5 (j * 3))) (sec w 4 s + 1) (sec w 4 (s + 1))) 0 (stops w)
-    && all (λ r. all (λ p. let s = sec w 12 (sec w 11 r + p) in some (calls w r p) (sec w 4 s) (sec w 4 (s + 1))) 0 (count w 11 r)) 0 (routes w)
+stopRoutes w = callsHold w && callsRise w && callsAll w
+
+-- row j of the calls names a route that has a trip
+unfoldable pub running : List ℕ → ℕ → Bool
+running w j = ltb 0 (count w 13 (sec w 5 (j * 3)))
+
+-- a trip passes the stop
+unfoldable pub passes : List ℕ → ℕ → Bool
+passes w s = some (running w) (sec w 4 s) (sec w 4 (s + 1))
 
 -- "Each stop's served mark is set exactly when a trip passes it."
+unfoldable pub servedMark : List ℕ → ℕ → Bool
+servedMark w s = eqb (sec w 6 s) (cond (passes w s) 1 0)
+
 unfoldable pub served : List ℕ → Bool
-unfolding some
-served w =
-    all (λ s. eqb (sec w 6 s) (cond (some (λ j. ltb 0 (count w 13 (sec w 5 (j * 3)))) (sec w 4 s) (sec w 4 (s + 1))) 1 0)) 0 (stops w)
+served w = all (servedMark w) 0 (stops w)
 
 -- "A transfer is listed under its `from_stop_idx` only."
+unfoldable pub transfer : List ℕ → ℕ → ℕ → Bool
+transfer w s j = eqb (sec w 8 (j * 4)) s && ltb (sec w 8 (j * 4 + 1)) (stops w)
+
 unfoldable pub transfers : List ℕ → Bool
-transfers w = all (λ s. under w 7 (λ j. eqb (sec w 8 (j * 4)) s && ltb (sec w 8 (j * 4 + 1)) (stops w)) s) 0 (stops w)
+transfers w = all (under w 7 (transfer w)) 0 (stops w)
+
+unfoldable pub walk : List ℕ → ℕ → Bool
+walk w j = ltb (sec w 10 (j * 2)) (stops w)
 
 unfoldable pub walks : List ℕ → Bool
-walks w = all (λ j. ltb (sec w 10 (j * 2)) (stops w)) 0 (rows w 10 2)
+walks w = all (walk w) 0 (rows w 10 2)
 
 -- "An area names no stop twice"
-unfoldable pub areasListed : List ℕ → Bool
-unfolding distinct
-areasListed w =
-    all (λ i. ltb (sec w 18 i) (stops w)) 0 (size w 18) && all (λ a. distinct w 18 (sec w 17 a) (sec w 17 (a + 1))) 0 (areas w)
+unfoldable pub areaOnce : List ℕ → ℕ → Bool
+areaOnce w a = distinct w 18 (sec w 17 a) (sec w 17 (a + 1))
 
+unfoldable pub areasOnce : List ℕ → Bool
+areasOnce w = all (areaOnce w) 0 (areas w)
+
+unfoldable pub areasListed : List ℕ → Bool
+areasListed w = inRange w 18 (stops w) && areasOnce w
+
+-- the rules for stops, stations and routes
+unfoldable pub framed : List ℕ → Bool
+framed w = stopList w && stations w && children w && routeStops w && routeTrips w && tripTimes w
+
+-- and those for what stands at stops
 unfoldable pub listed : List ℕ → Bool
-listed w =
-    stopList w && stations w && children w && routeStops w && routeTrips w && tripTimes w && stopRoutes w && served w && transfers w && walks w
-    && areasListed w
+listed w = framed w && stopRoutes w && served w && transfers w && walks w && areasListed w

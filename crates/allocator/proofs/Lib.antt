@@ -1,0 +1,21 @@
+-- Laws that belong to no one function. A caller cites Visited, Viewed, Keeping, Links and Same.
+pub mod Sections
+pub mod Tabulated
+pub mod Loops
+pub mod Part
+pub mod Tests
+pub mod Rowed
+pub mod Flagged
+pub mod Read
+pub mod Changes
+pub mod Does
+pub mod DoesWords
+pub mod DoesMarks
+pub mod DoesParent
+pub mod Operated
+pub mod Cleared
+pub mod Visited
+pub mod Viewed
+pub mod Keeping
+pub mod Links
+pub mod Same

@@ -1,0 +1,54 @@
+-- The tests of the code are those of the model, case by case.
+-- Assumes nothing.
+use mathlib.Core.Path.{_≡_, refl}
+use mathlib.Core.Bool.{false}
+use Prim.Native.Nat.{ℕ, zero, suc}
+use lib.Dec.{ltb}
+use Rattle.model.specs.declared.Direction.{Direction}
+use Rattle.model.specs.declared.Direction.the-variants.{Departure, Arrival}
+use Rattle.model.specs.Choosing.{sooner}
+use Rattle.model.specs.Moments.{MAX, orMax, better}
+use Rattle.allocator.specs.Operations.{blank}
+
+module _ {d : Direction} (t b : ℕ) where
+  pub better-none : d ≡ Departure → t ≡ 0 → false ≡ better d t b
+  unfolding better
+  better-none e z = rw (e, z)
+
+  pub better-first : d ≡ Departure → (t ≡ 0 → ⊥) → b ≡ 0 → ltb t MAX ≡ better d t b
+  unfolding better orMax
+  better-first e n z = rw (e, z) (go t n)
+    where
+      go : (t : ℕ) → (t ≡ 0 → ⊥) → ltb t MAX ≡ better Departure t 0
+      go zero n = absurd (n refl)
+      go (suc t) n = refl
+
+  pub better-later : d ≡ Departure → (t ≡ 0 → ⊥) → (b ≡ 0 → ⊥) → ltb t b ≡ better d t b
+  unfolding better orMax
+  better-later e n z = rw e (go t b n z)
+    where
+      go : (t b : ℕ) → (t ≡ 0 → ⊥) → (b ≡ 0 → ⊥) → ltb t b ≡ better Departure t b
+      go zero b n z = absurd (n refl)
+      go (suc t) zero n z = absurd (z refl)
+      go (suc t) (suc b) n z = refl
+
+  pub better-arrival : d ≡ Arrival → ltb b t ≡ better d t b
+  unfolding better
+  better-arrival e = rw e
+
+module _ {d : Direction} (p mark : ℕ) where
+  pub sooner-departure : d ≡ Departure → ltb p mark ≡ sooner d p mark
+  unfolding sooner
+  sooner-departure e = rw e
+
+  pub sooner-arrival : d ≡ Arrival → ltb mark p ≡ sooner d p mark
+  unfolding sooner
+  sooner-arrival e = rw e
+
+pub blank-departure : {d : Direction} → d ≡ Departure → 4_294_967_295 ≡ blank d
+unfolding blank
+blank-departure e = rw e
+
+pub blank-arrival : {d : Direction} → d ≡ Arrival → 0 ≡ blank d
+unfolding blank
+blank-arrival e = rw e

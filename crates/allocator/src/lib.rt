@@ -1,0 +1,496 @@
+// The workspace of a search: the only crate that knows where a label, a mark or a parent stands.
+// With n stops and m routes, `words` holds the previous labels (n), the current labels (n), the best
+// moments (n), the held labels (n), the routes' marks (m) and the parents (15 * n rows of 6 words).
+// `marks` holds the marks of the stops, of the stops as held, and of the routes that a round scans,
+// each in whole words of 64.
+ghost use mathlib.Core.Bool.{Bool};
+ghost use mathlib.Core.Option.{none, some};
+ghost use mathlib.Core.Path.{_≡_};
+ghost use Prim.Native.Nat.{_+_, _-_, _*_, _<_, _≤_};
+ghost use lib.ListN.{length, getD, set, replicate};
+ghost use Rattle.marks.specs.Marks.{firstOf};
+ghost use Rattle.model.specs.Choosing.{sooner};
+ghost use Rattle.model.specs.Lists.{anyOf};
+ghost use Rattle.model.specs.Moments.{better};
+ghost use Rattle.allocator.specs.Sections.{sect, put};
+ghost use Rattle.allocator.specs.Rows.{kindWord, tripWord, legRow, legIn, decoded, parentOf};
+ghost use Rattle.allocator.specs.Layout.{pages, Words, Marks, Sized, view, prevOf, currOf, bestOf, heldOf, activeOf, parentsOf, markOf, heldMarkOf, maskOf};
+ghost use Rattle.allocator.specs.Tidy.{Tidy, Kept};
+ghost use Rattle.allocator.specs.Operations.{blank, cleared, started, swapped, unmasked, refilled, activated, unmarked, holding, stored, applied};
+ghost use Rattle.allocator.specs.Marked.{after};
+use marks::Next;
+use model::Direction;
+use model::Leg;
+use model::LegType;
+use model::Mode;
+use shared::Time;
+
+// What a route's mark holds before a departure search, and each word of an absent parent.
+const MAX: u32 = 4294967295;
+
+// The leg by which a stop was reached, if it was.
+pub enum Parent {
+    Leg(Leg),
+    Nothing,
+}
+
+// ---- words
+
+// Writes v to the words from a up to below e.
+fn fill(words: &mut [u32], a: usize, e: usize, v: u32)
+    requires { ⌜ a ≤ e ⌝ }
+    requires { ⌜ e ≤ length (now words) ⌝ }
+    ensures { λ _. ⌜ now (words .exit) ≡ put a (replicate (e - a) v) (now (words .entry)) ⌝ }
+{
+    let mut i = a;
+    while i < e {
+        words[i] = v;
+        i += 1;
+    }
+}
+
+// Copies the n words from a on to b and on. The two parts are apart.
+fn copy(words: &mut [u32], a: usize, b: usize, n: usize)
+    requires { ⌜ a + n ≤ length (now words) ⌝ }
+    requires { ⌜ b + n ≤ length (now words) ⌝ }
+    requires { ⌜ n ≤ (a - b) + (b - a) ⌝ }
+    ensures { λ _. ⌜ now (words .exit) ≡ put b (sect a n (now (words .entry))) (now (words .entry)) ⌝ }
+{
+    let mut i = 0;
+    while i < n {
+        words[b + i] = words[a + i];
+        i += 1;
+    }
+}
+
+// The same of marks.
+fn copy_marks(marks: &mut [u64], a: usize, b: usize, n: usize)
+    requires { ⌜ a + n ≤ length (now marks) ⌝ }
+    requires { ⌜ b + n ≤ length (now marks) ⌝ }
+    requires { ⌜ n ≤ (a - b) + (b - a) ⌝ }
+    ensures { λ _. ⌜ now (marks .exit) ≡ put b (sect a n (now (marks .entry))) (now (marks .entry)) ⌝ }
+{
+    let mut i = 0;
+    while i < n {
+        marks[b + i] = marks[a + i];
+        i += 1;
+    }
+}
+
+// Takes away the marks of the words from a up to below e.
+fn clear_part(marks: &mut [u64], a: usize, e: usize)
+    requires { ⌜ a ≤ e ⌝ }
+    requires { ⌜ e ≤ length (now marks) ⌝ }
+    ensures { λ _. ⌜ now (marks .exit) ≡ put a (replicate (e - a) 0) (now (marks .entry)) ⌝ }
+{
+    marks::clear_all(&mut marks[a..e]);
+}
+
+// How many words hold the marks of n stops or routes.
+fn pages_of(n: u32) -> usize
+    ensures { λ p. ⌜ p ≡ pages n ⌝ }
+{
+    (n as usize + 63) / 64
+}
+
+// ---- tests
+
+// Whether the moment t is strictly better than the best moment b. A moment 0 is none.
+pub fn is_better(d: Direction, t: Time, b: Time) -> bool
+    ensures { λ r. ⌜ r ≡ better d (t .0) (b .0) ⌝ }
+{
+    match d {
+        Direction::Departure => {
+            if t.0 == 0 {
+                return false;
+            }
+            if b.0 == 0 {
+                return t.0 < MAX;
+            }
+            t.0 < b.0
+        }
+        Direction::Arrival => b.0 < t.0,
+    }
+}
+
+// Whether position p replaces a route's mark.
+fn is_sooner(d: Direction, p: u32, mark: u32) -> bool
+    ensures { λ r. ⌜ r ≡ sooner d p mark ⌝ }
+{
+    match d {
+        Direction::Departure => p < mark,
+        Direction::Arrival => mark < p,
+    }
+}
+
+// How a route's mark is filled.
+fn blank_of(d: Direction) -> u32
+    ensures { λ v. ⌜ v ≡ blank d ⌝ }
+{
+    match d {
+        Direction::Departure => MAX,
+        Direction::Arrival => 0,
+    }
+}
+
+// ---- readers
+
+// The label of stop s in the round before.
+pub fn prev_at(words: &[u32], n: u32, m: u32, s: u32) -> Time
+    requires { ⌜ Words n m (now words) ⌝ }
+    requires { ⌜ s < n ⌝ }
+    ensures { λ t. ⌜ t .0 ≡ getD (prevOf n m (now (words .entry))) s 0 ⌝ }
+{
+    let i = s as usize;
+    Time(words[i])
+}
+
+// The label of stop s in this round.
+pub fn curr_at(words: &[u32], n: u32, m: u32, s: u32) -> Time
+    requires { ⌜ Words n m (now words) ⌝ }
+    requires { ⌜ s < n ⌝ }
+    ensures { λ t. ⌜ t .0 ≡ getD (currOf n m (now (words .entry))) s 0 ⌝ }
+{
+    let i = n as usize + s as usize;
+    Time(words[i])
+}
+
+// The best moment of stop s.
+pub fn best_at(words: &[u32], n: u32, m: u32, s: u32) -> Time
+    requires { ⌜ Words n m (now words) ⌝ }
+    requires { ⌜ s < n ⌝ }
+    ensures { λ t. ⌜ t .0 ≡ getD (bestOf n m (now (words .entry))) s 0 ⌝ }
+{
+    let i = 2 * (n as usize) + s as usize;
+    Time(words[i])
+}
+
+// The label of stop s as this round's rides left it.
+pub fn held_at(words: &[u32], n: u32, m: u32, s: u32) -> Time
+    requires { ⌜ Words n m (now words) ⌝ }
+    requires { ⌜ s < n ⌝ }
+    ensures { λ t. ⌜ t .0 ≡ getD (heldOf n m (now (words .entry))) s 0 ⌝ }
+{
+    let i = 3 * (n as usize) + s as usize;
+    Time(words[i])
+}
+
+// The mark of route r: from which position the route is scanned.
+pub fn active_at(words: &[u32], n: u32, m: u32, r: u32) -> u32
+    requires { ⌜ Words n m (now words) ⌝ }
+    requires { ⌜ r < m ⌝ }
+    ensures { λ p. ⌜ p ≡ getD (activeOf n m (now (words .entry))) r 0 ⌝ }
+{
+    let i = 4 * (n as usize) + r as usize;
+    words[i]
+}
+
+// Where the parent of stop s in round k stands. The one product of two numbers is here.
+fn row_at(n: u32, m: u32, k: u32, s: u32) -> usize
+    requires { ⌜ (n ≤ 4096) × (m ≤ 1024) ⌝ }
+    requires { ⌜ s < n ⌝ }
+    requires { ⌜ k < 15 ⌝ }
+    ensures { λ i. ⌜ i ≡ 4 * n + m + (k * n + s) * 6 ⌝ }
+    ensures { λ i. ⌜ i + 6 ≤ 94 * n + m ⌝ }
+{
+    4 * (n as usize) + m as usize + ((k as usize) * (n as usize) + s as usize) * 6
+}
+
+// The leg in the row that begins at word i.
+fn leg_at(words: &[u32], i: usize, kind: LegType) -> Leg
+    requires { ⌜ i + 6 ≤ length (now words) ⌝ }
+    ensures { λ g. ⌜ g ≡ legIn kind (sect i 6 (now (words .entry))) ⌝ }
+{
+    Leg {
+        from: words[i + 1],
+        to: words[i + 2],
+        departure: Time(words[i + 4]),
+        arrival: Time(words[i + 5]),
+        kind: kind,
+    }
+}
+
+// The parent in the row that begins at word i. A word that is no kind stands for none.
+fn parent_in(words: &[u32], i: usize) -> Parent
+    requires { ⌜ i + 6 ≤ length (now words) ⌝ }
+    ensures { λ p. ⌜ p ≡ parentOf (decoded (sect i 6 (now (words .entry)))) ⌝ }
+{
+    let kind = words[i];
+    if kind == 1 {
+        return Parent::Leg(leg_at(words, i, LegType::Transit(words[i + 3])));
+    }
+    if kind == 2 {
+        return Parent::Leg(leg_at(words, i, LegType::Transfer));
+    }
+    if kind == 3 {
+        return Parent::Leg(leg_at(words, i, LegType::Walk));
+    }
+    Parent::Nothing
+}
+
+// The leg by which stop s was reached in round k.
+pub fn parent_at(words: &[u32], n: u32, m: u32, k: u32, s: u32) -> Parent
+    requires { ⌜ Words n m (now words) ⌝ }
+    requires { ⌜ s < n ⌝ }
+    requires { ⌜ k < 15 ⌝ }
+    ensures { λ p. ⌜ p ≡ parentOf (getD (parentsOf n m (now (words .entry))) (k * n + s) none) ⌝ }
+{
+    let i = row_at(n, m, k, s);
+    parent_in(words, i)
+}
+
+// The first marked stop at or after `from`.
+pub fn next_marked(marks: &[u64], n: u32, m: u32, from: usize) -> Next
+    requires { ⌜ Marks n m (now marks) ⌝ }
+    ensures { λ r. ⌜ r ≡ firstOf (after from (markOf n m (now (marks .entry)))) ⌝ }
+{
+    let p = pages_of(n);
+    marks::next_mark(&marks[0..p], from, n as usize)
+}
+
+// The first stop at or after `from` that the round's rides marked.
+pub fn next_held(marks: &[u64], n: u32, m: u32, from: usize) -> Next
+    requires { ⌜ Marks n m (now marks) ⌝ }
+    ensures { λ r. ⌜ r ≡ firstOf (after from (heldMarkOf n m (now (marks .entry)))) ⌝ }
+{
+    let p = pages_of(n);
+    let e = 2 * p;
+    marks::next_mark(&marks[p..e], from, n as usize)
+}
+
+// The first route at or after `from` that the round scans.
+pub fn next_route(marks: &[u64], n: u32, m: u32, from: usize) -> Next
+    requires { ⌜ Marks n m (now marks) ⌝ }
+    ensures { λ r. ⌜ r ≡ firstOf (after from (maskOf n m (now (marks .entry)))) ⌝ }
+{
+    let a = 2 * pages_of(n);
+    let e = a + pages_of(m);
+    marks::next_mark(&marks[a..e], from, m as usize)
+}
+
+// Whether a stop is marked: a search ends where none is.
+pub fn any_marked(marks: &[u64], n: u32, m: u32) -> bool
+    requires { ⌜ Marks n m (now marks) ⌝ }
+    ensures { λ b. ⌜ b ≡ anyOf (markOf n m (now (marks .entry))) ⌝ }
+{
+    match next_marked(marks, n, m, 0) {
+        Next::At(_) => true,
+        Next::Nothing => false,
+    }
+}
+
+// ---- at the start of a query
+
+// Every search begins with a new workspace, whatever was in it: no label, no mark, no parent.
+pub fn clear(words: &mut [u32], marks: &mut [u64], n: u32, m: u32, d: Direction)
+    requires { ⌜ Sized n m (now words) (now marks) ⌝ }
+    ensures { λ _. ⌜ view n m (now (words .exit)) (now (marks .exit)) ≡ cleared n m d ⌝ }
+    ensures { λ _. ⌜ Tidy n m (now (words .exit)) (now (marks .exit)) ⌝ }
+{
+    let a = 4 * (n as usize);
+    let b = a + m as usize;
+    let e = b + 90 * (n as usize);
+    let p = 2 * pages_of(n);
+    let q = p + pages_of(m);
+    fill(words, 0, a, 0);
+    fill(words, a, b, blank_of(d));
+    fill(words, b, e, MAX);
+    clear_part(marks, 0, q);
+}
+
+// A start stop gets the query moment as current label and a mark. Its best moment stays absent.
+pub fn start(words: &mut [u32], marks: &mut [u64], n: u32, m: u32, s: u32, t: Time)
+    requires { ⌜ Sized n m (now words) (now marks) ⌝ }
+    requires { ⌜ s < n ⌝ }
+    ensures { λ _. ⌜ view n m (now (words .exit)) (now (marks .exit))
+        ≡ started s (t .0) (view n m (now (words .entry)) (now (marks .entry))) ⌝ }
+    ensures { λ _. ⌜ Kept n m (now (words .entry)) (now (marks .entry)) (now (words .exit)) (now (marks .exit)) ⌝ }
+{
+    let i = n as usize + s as usize;
+    words[i] = t.0;
+    marks::set_mark(marks, s as usize);
+}
+
+// ---- at the start of a round
+
+// The current labels become the previous ones, and no stop has a current label.
+pub fn swap_labels(words: &mut [u32], marks: &mut [u64], n: u32, m: u32)
+    requires { ⌜ Sized n m (now words) (now marks) ⌝ }
+    ensures { λ _. ⌜ view n m (now (words .exit)) (now (marks .exit))
+        ≡ swapped n (view n m (now (words .entry)) (now (marks .entry))) ⌝ }
+    ensures { λ _. ⌜ Kept n m (now (words .entry)) (now (marks .entry)) (now (words .exit)) (now (marks .exit)) ⌝ }
+{
+    let a = n as usize;
+    let e = 2 * a;
+    copy(words, a, 0, a);
+    fill(words, a, e, 0);
+}
+
+// Fills the routes' marks again, where the mode asks for it before every round.
+pub fn refill(words: &mut [u32], marks: &mut [u64], n: u32, m: u32, mode: Mode, d: Direction)
+    requires { ⌜ Sized n m (now words) (now marks) ⌝ }
+    ensures { λ _. ⌜ view n m (now (words .exit)) (now (marks .exit))
+        ≡ refilled mode m d (view n m (now (words .entry)) (now (marks .entry))) ⌝ }
+    ensures { λ _. ⌜ Kept n m (now (words .entry)) (now (marks .entry)) (now (words .exit)) (now (marks .exit)) ⌝ }
+{
+    let a = 4 * (n as usize);
+    let e = a + m as usize;
+    match mode {
+        Mode::Source => {}
+        Mode::Rescan => fill(words, a, e, blank_of(d)),
+    }
+}
+
+// No route is to be scanned.
+pub fn clear_mask(words: &mut [u32], marks: &mut [u64], n: u32, m: u32)
+    requires { ⌜ Sized n m (now words) (now marks) ⌝ }
+    ensures { λ _. ⌜ view n m (now (words .exit)) (now (marks .exit))
+        ≡ unmasked m (view n m (now (words .entry)) (now (marks .entry))) ⌝ }
+    ensures { λ _. ⌜ Kept n m (now (words .entry)) (now (marks .entry)) (now (words .exit)) (now (marks .exit)) ⌝ }
+{
+    let a = 2 * pages_of(n);
+    let e = a + pages_of(m);
+    clear_part(marks, a, e);
+}
+
+// Before routes are chosen.
+pub fn begin_choosing(
+    words: &mut [u32],
+    marks: &mut [u64],
+    n: u32,
+    m: u32,
+    mode: Mode,
+    d: Direction,
+)
+    requires { ⌜ Sized n m (now words) (now marks) ⌝ }
+    ensures { λ _. ⌜ view n m (now (words .exit)) (now (marks .exit))
+        ≡ unmasked m (refilled mode m d (view n m (now (words .entry)) (now (marks .entry)))) ⌝ }
+    ensures { λ _. ⌜ Kept n m (now (words .entry)) (now (marks .entry)) (now (words .exit)) (now (marks .exit)) ⌝ }
+{
+    refill(words, marks, n, m, mode, d);
+    clear_mask(words, marks, n, m);
+}
+
+// A marked stop stands at position p of route r: the route's mark moves there, and the route is
+// scanned in this round, where p is sooner.
+pub fn activate(words: &mut [u32], marks: &mut [u64], n: u32, m: u32, d: Direction, r: u32, p: u32)
+    requires { ⌜ Sized n m (now words) (now marks) ⌝ }
+    requires { ⌜ r < m ⌝ }
+    ensures { λ _. ⌜ view n m (now (words .exit)) (now (marks .exit))
+        ≡ activated d r p (view n m (now (words .entry)) (now (marks .entry))) ⌝ }
+    ensures { λ _. ⌜ Kept n m (now (words .entry)) (now (marks .entry)) (now (words .exit)) (now (marks .exit)) ⌝ }
+{
+    let mark = active_at(words, n, m, r);
+    if is_sooner(d, p, mark) {
+        let i = 4 * (n as usize) + r as usize;
+        let q = 2 * pages_of(n);
+        words[i] = p;
+        marks::set_mark(marks, 64 * q + r as usize);
+    }
+}
+
+// No stop is marked.
+pub fn clear_marks(words: &mut [u32], marks: &mut [u64], n: u32, m: u32)
+    requires { ⌜ Sized n m (now words) (now marks) ⌝ }
+    ensures { λ _. ⌜ view n m (now (words .exit)) (now (marks .exit))
+        ≡ unmarked n (view n m (now (words .entry)) (now (marks .entry))) ⌝ }
+    ensures { λ _. ⌜ Kept n m (now (words .entry)) (now (marks .entry)) (now (words .exit)) (now (marks .exit)) ⌝ }
+{
+    let e = pages_of(n);
+    clear_part(marks, 0, e);
+}
+
+// ---- within a round
+
+// Holds the current labels and the marks as the rides left them: footpaths are made from these.
+pub fn hold(words: &mut [u32], marks: &mut [u64], n: u32, m: u32)
+    requires { ⌜ Sized n m (now words) (now marks) ⌝ }
+    ensures { λ _. ⌜ view n m (now (words .exit)) (now (marks .exit))
+        ≡ holding (view n m (now (words .entry)) (now (marks .entry))) ⌝ }
+    ensures { λ _. ⌜ Kept n m (now (words .entry)) (now (marks .entry)) (now (words .exit)) (now (marks .exit)) ⌝ }
+{
+    let a = n as usize;
+    let b = 3 * a;
+    let p = pages_of(n);
+    copy(words, a, b, a);
+    copy_marks(marks, 0, p, p);
+}
+
+// The first word of a row.
+fn kind_word(kind: LegType) -> u32
+    ensures { λ v. ⌜ v ≡ kindWord kind ⌝ }
+{
+    match kind {
+        LegType::Transit(_) => 1,
+        LegType::Transfer => 2,
+        LegType::Walk => 3,
+    }
+}
+
+// A footpath has no trip.
+fn trip_word(kind: LegType) -> u32
+    ensures { λ v. ⌜ v ≡ tripWord kind ⌝ }
+{
+    match kind {
+        LegType::Transit(trip) => trip,
+        LegType::Transfer => 0,
+        LegType::Walk => 0,
+    }
+}
+
+// Writes the row of a leg from word i on.
+fn put_leg(words: &mut [u32], i: usize, g: Leg)
+    requires { ⌜ i + 6 ≤ length (now words) ⌝ }
+    ensures { λ _. ⌜ now (words .exit) ≡ put i (legRow g) (now (words .entry)) ⌝ }
+{
+    let kind = g.kind;
+    words[i] = kind_word(kind);
+    words[i + 1] = g.from;
+    words[i + 2] = g.to;
+    words[i + 3] = trip_word(kind);
+    words[i + 4] = g.departure.0;
+    words[i + 5] = g.arrival.0;
+}
+
+// Stop s is reached at moment t by the leg g, in round k.
+fn store(words: &mut [u32], marks: &mut [u64], n: u32, m: u32, k: u32, s: u32, t: Time, g: Leg)
+    requires { ⌜ Sized n m (now words) (now marks) ⌝ }
+    requires { ⌜ s < n ⌝ }
+    requires { ⌜ k < 15 ⌝ }
+    ensures { λ _. ⌜ view n m (now (words .exit)) (now (marks .exit))
+        ≡ stored (k * n) s (t .0) g (view n m (now (words .entry)) (now (marks .entry))) ⌝ }
+    ensures { λ _. ⌜ Kept n m (now (words .entry)) (now (marks .entry)) (now (words .exit)) (now (marks .exit)) ⌝ }
+{
+    let a = n as usize + s as usize;
+    let b = 2 * (n as usize) + s as usize;
+    let i = row_at(n, m, k, s);
+    words[a] = t.0;
+    words[b] = t.0;
+    put_leg(words, i, g);
+    marks::set_mark(marks, s as usize);
+}
+
+// The same where t is strictly better than the best moment of s: a tie keeps the parent.
+pub fn apply(
+    words: &mut [u32],
+    marks: &mut [u64],
+    n: u32,
+    m: u32,
+    d: Direction,
+    k: u32,
+    s: u32,
+    t: Time,
+    g: Leg,
+)
+    requires { ⌜ Sized n m (now words) (now marks) ⌝ }
+    requires { ⌜ s < n ⌝ }
+    requires { ⌜ k < 15 ⌝ }
+    ensures { λ _. ⌜ view n m (now (words .exit)) (now (marks .exit))
+        ≡ applied d (k * n) s (t .0) g (view n m (now (words .entry)) (now (marks .entry))) ⌝ }
+    ensures { λ _. ⌜ Kept n m (now (words .entry)) (now (marks .entry)) (now (words .exit)) (now (marks .exit)) ⌝ }
+{
+    let best = best_at(words, n, m, s);
+    if is_better(d, t, best) {
+        store(words, marks, n, m, k, s, t, g);
+    }
+}

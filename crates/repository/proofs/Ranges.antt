@@ -1,0 +1,90 @@
+-- Accepted tables name nothing that is not there: each number that a reader returns is in range for the next.
+use Prim.Native.Nat.{ℕ, _+_, _*_, _≤_, _<_}
+use mathlib.Core.Path.{_≡_}
+use mathlib.Core.Bool.{false}
+use mathlib.Core.Logic.{_⊎_, inl, inr}
+use mathlib.Core.List.{List}
+use native.Mathlib.Omega.{arith}
+use lib.Dec.{eqb}
+use borrow.Author.Tests.{eqb-false}
+use Rattle.base.specs.Choice.{split}
+use Rattle.shared.proofs.Span.{span-most}
+use Rattle.model.specs.Moments.{MAX}
+use Rattle.model.specs.Spans.{transferSpan, walkSpan}
+use Rattle.repository.specs.Sections.{sec, stops}
+use Rattle.repository.specs.NetOf.{transferRow, walkRow, netOf}
+use Rattle.repository.specs.Laid.{Laid}
+use Rattle.repository.specs.Accepted.{Under, Accepted}
+use Rattle.repository.specs.Rows.{Listing, calls, transfers, walks, startsOf, wideOf, firstRow, pastRow, rowCount}
+use Rattle.repository.specs.Rows.{OfStop, callRoute, callFirst}
+use Rattle.repository.proofs.Rooms.{past-in}
+
+-- ---- the limits, as far as the network shows them
+
+module _ {w : List ℕ} (h : Laid w) where
+  pub stops-few : netOf w .stops ≤ 4_096
+  unfolding netOf
+  stops-few = h .stops-limit
+
+  pub routes-few : netOf w .routes ≤ 1_024
+  unfolding netOf
+  routes-few = h .routes-limit
+
+  pub positions-few : {r : ℕ} → r < netOf w .routes → netOf w .positions r ≤ 128
+  unfolding netOf
+  positions-few {r} i = h .positions-limit r i
+
+-- ---- rows of a stop
+
+pub of-stop : (l : Listing) {w : List ℕ} {s a b j : ℕ} → s < netOf w .stops → a ≡ firstRow l w s → a ≤ j
+    → b ≡ pastRow l w s → j < b
+    → OfStop l w s j
+of-stop l i e f g h = record { stop = i; from = omega arith; past = omega arith }
+
+pub under : (l : Listing) {w : List ℕ} {s j : ℕ} → OfStop l w s j → Under w (startsOf l) s j
+unfolding firstRow pastRow
+under l o = record { from = o .from; to = o .past }
+
+pub row-known : (l : Listing) {w : List ℕ} {s j : ℕ} → Laid w → OfStop l w s j → j < rowCount l w
+row-known l h o = omega (arith, o .past, past-in l h (o .stop))
+
+module _ {w : List ℕ} {s j : ℕ} (h : Accepted w) (o : OfStop calls w s j) where
+  stop-in : s < stops w
+  unfolding netOf
+  stop-in = o .stop
+
+  pub route-known : {r : ℕ} → r ≡ callRoute w j → r < netOf w .routes
+  unfolding netOf callRoute startsOf
+  route-known e = rw e (h .listed .call-route s j stop-in (under calls o))
+
+  pub position-known : {r p : ℕ} → r ≡ callRoute w j → p ≡ callFirst w j → p < netOf w .positions r
+  unfolding netOf callRoute callFirst startsOf
+  position-known e f = rw (e, f) (h .listed .call-first-in s j stop-in (under calls o))
+
+-- ---- footpaths: where they lead, and how long they take
+
+pub transfer-known : {w : List ℕ} {s j u : ℕ} → Accepted w → OfStop transfers w s j → u ≡ (transferRow w j) .to
+    → u < netOf w .stops
+unfolding netOf transferRow startsOf
+transfer-known {s = s} {j = j} h o e = rw e (h .listed .transfer-to s j (o .stop) (under transfers o))
+
+pub walk-known : {w : List ℕ} {j u : ℕ} → Accepted w → j < rowCount walks w → u ≡ (walkRow w j) .to → u < netOf w .stops
+unfolding netOf walkRow rowCount startsOf wideOf
+walk-known {j = j} h i e = rw e (h .listed .walk-to j i)
+
+pub transfer-short : {w : List ℕ} {j x : ℕ} → Accepted w → j < rowCount transfers w → x ≡ (transferRow w j) .span
+    → x ≤ 86_400
+unfolding transferRow transferSpan rowCount startsOf wideOf
+transfer-short {w} {j} h i e =
+    split (eqb (sec w 8 (j * 4 + 2)) MAX)
+    (λ t. rw (e, t) (omega (arith, span-most _ (h .measured .transfers j i))))
+    (λ t. rw (e, t) (stated t (h .measured .spans j i)))
+  where
+    stated : eqb (sec w 8 (j * 4 + 2)) MAX ≡ false → (sec w 8 (j * 4 + 2) ≡ MAX) ⊎ (sec w 8 (j * 4 + 2) ≤ 86_400)
+        → sec w 8 (j * 4 + 2) ≤ 86_400
+    stated t (inl same) = absurd (eqb-false _ _ t same)
+    stated t (inr l) = l
+
+pub walk-short : {w : List ℕ} {j x : ℕ} → Accepted w → j < rowCount walks w → x ≡ (walkRow w j) .span → x ≤ 86_400
+unfolding walkRow walkSpan rowCount startsOf wideOf
+walk-short {j = j} h i e = rw e (omega (arith, span-most _ (h .measured .walks j i)))

@@ -1,0 +1,130 @@
+-- The readers: that each of their words is in range, and what it is, in the shape in which their code asks.
+use Prim.Native.Nat.{ℕ, _+_, _-_, _*_, _≤_, _<_}
+use mathlib.Core.Path.{_≡_, refl, ap, _∙_}
+use mathlib.Core.List.{List, [], _∷_}
+use native.Mathlib.Omega.{arith}
+use native.Mathlib.Nat.{add-zero}
+use borrow.Author.Tests.{eq-eqb, ne-eqb}
+use lib.ListN.{length}
+use lib.Ieee.{Float, ofBits, binary32}
+use Rattle.base.specs.Tab.{tab}
+use Rattle.shared.specs.Walk.{Stretch}
+use Rattle.model.specs.Moments.{MAX}
+use Rattle.repository.specs.declared.places.Station.the-variants.{At, Nothing}
+use Rattle.repository.specs.Sections.{start, size, sec, stops}
+use Rattle.repository.specs.NetOf.{count, listOf, stationOf, netOf}
+use Rattle.repository.specs.Laid.{Laid}
+use Rattle.repository.specs.Accepted.{Accepted}
+use Rattle.repository.specs.Entries.{Entry, Part, Words}
+use Rattle.repository.specs.Rows.{Listing, calls, transfers, walks, startsOf, wideOf, rowCount, pastRow}
+use Rattle.repository.specs.Rows.{timeCount}
+use Rattle.repository.specs.Station.{stationIs}
+use Rattle.repository.proofs.Tabs.{tab-shift}
+use Rattle.repository.proofs.Rooms.{room, row-room, stop-of-route, trip-of-route, past-in}
+
+pub list-entry : {w : List ℕ} {k i : ℕ} → Words w k i → Entry w k i
+list-entry l = l .entry
+
+-- word p under entry i, whose words are those of section k + 1
+list-room : {w : List ℕ} → Laid w → (k : ℕ) {i p : ℕ} → Words w k i → p < count w k i
+    → start w (k + 1) + (sec w k i + p) < length w
+unfolding count
+list-room h k l m = room h (k + 1) (omega (arith, l .section)) (omega (arith, l .within))
+
+module _ {w : List ℕ} {r p a : ℕ} (h : Laid w) (i : r < netOf w .routes) where
+  pub stop-room : p < netOf w .positions r → a ≡ sec w 11 r → start w 12 + (a + p) < length w
+  unfolding netOf
+  stop-room m e = rw e (list-room h 11 (stop-of-route h i) m)
+
+  pub trip-room : p < netOf w .trips r → a ≡ sec w 13 r → start w 14 + (a + p) < length w
+  unfolding netOf
+  trip-room m e = rw e (list-room h 13 (trip-of-route h i) m)
+
+-- ---- rows of the three lists, and of the times
+
+section-in : (l : Listing) → startsOf l + 1 < 19
+unfolding startsOf
+section-in calls = omega arith
+section-in transfers = omega arith
+section-in walks = omega arith
+
+wide-some : (l : Listing) → 0 < wideOf l
+unfolding wideOf
+wide-some calls = omega arith
+wide-some transfers = omega arith
+wide-some walks = omega arith
+
+module _ (l : Listing) {w : List ℕ} (h : Laid w) {j : ℕ} (i : j < rowCount l w) where
+  pub cell-room : (at : ℕ) → at < wideOf l → start w (startsOf l + 1) + (j * wideOf l + at) < length w
+  unfolding rowCount
+  cell-room at m = row-room h (startsOf l + 1) (wideOf l) (section-in l) i m
+
+  -- its first word
+  pub cell-room-0 : start w (startsOf l + 1) + j * wideOf l < length w
+  cell-room-0 = omega (arith, cell-room 0 (wide-some l))
+
+pub past-known : (l : Listing) {w : List ℕ} {s b : ℕ} → Laid w → s < netOf w .stops → b ≡ pastRow l w s
+    → b ≤ rowCount l w
+past-known l h i e = omega (arith, past-in l h i)
+
+module _ {w : List ℕ} (row p : ℕ) (h : Laid w) (i : row + p < timeCount w) where
+  pub arrival-room : start w 16 + (row + p) * 2 < length w
+  unfolding timeCount
+  arrival-room = omega (arith, row-room h 16 2 (omega arith) {at = 0} i (omega arith))
+
+  pub departure-room : start w 16 + ((row + p) * 2 + 1) < length w
+  unfolding timeCount
+  departure-room = row-room h 16 2 (omega arith) i (omega arith)
+
+-- the metres of accepted tables
+pub stretch-of : (bits : ℕ) (d : Float) → Stretch (ofBits binary32 bits) → d ≡ ofBits binary32 bits → Stretch d
+stretch-of bits d h e = rw e h
+
+module _ {w : List ℕ} (j : ℕ) {bits : ℕ} (h : Accepted w) where
+  pub transfer-stretch : j < rowCount transfers w → bits ≡ sec w 8 (j * 4 + 3) → Stretch (ofBits binary32 bits)
+  unfolding rowCount startsOf wideOf
+  transfer-stretch i e = rw e (h .measured .transfers j i)
+
+  pub walk-stretch : j < rowCount walks w → bits ≡ sec w 10 (j * 2 + 1) → Stretch (ofBits binary32 bits)
+  unfolding rowCount startsOf wideOf
+  walk-stretch i e = rw e (h .measured .walks j i)
+
+-- ---- stops
+
+-- the word of stop s in a section that has one for each stop
+pub stop-word : {w : List ℕ} (k : ℕ) {s : ℕ} → k < 19 → size w k ≡ stops w → Laid w → s < netOf w .stops
+    → start w k + s < length w
+unfolding netOf
+stop-word k g e h i = room h k g (omega arith)
+
+module _ (w : List ℕ) (s : ℕ) {p : ℕ} (e : p ≡ sec w 1 s) where
+  pub station-none : p ≡ MAX → Nothing ≡ stationIs (netOf w .station s)
+  unfolding netOf stationOf stationIs
+  station-none f = rw (← e, eq-eqb _ _ f)
+
+  pub station-some : (p ≡ MAX → ⊥) → At p ≡ stationIs (netOf w .station s)
+  unfolding netOf stationOf stationIs
+  station-some f = rw (← e, ne-eqb _ _ f)
+
+module _ {w : List ℕ} {s : ℕ} (h : Accepted w) (i : s < netOf w .stops) where
+  pub entry-part : Part w 0 s (s + 1)
+  unfolding netOf
+  entry-part = record { section = omega arith; rise = omega arith; within = omega arith }
+
+  pub entry-small : s + 1 < 4294967296
+  unfolding netOf
+  entry-small = omega (arith, h .laid .stops-limit)
+
+  pub entry-alone : {q : List ℕ} → q ≡ tab (sec w 0) (s + 1 - s) s → q ≡ s ∷ []
+  unfolding netOf tab
+  entry-alone e =
+      let one : s + 1 - s ≡ 1 = omega arith in
+      e ∙ ap (λ (n : ℕ). tab (sec w 0) n s) one ∙ ap (λ (x : ℕ). x ∷ []) (h .listed .stop-list s i)
+
+-- ---- the stops of a route
+
+pub stops-are : (w : List ℕ) (r : ℕ) {q : List ℕ} → q ≡ listOf w 11 (sec w 12) r
+    → q ≡ tab (netOf w .stopAt r) (netOf w .positions r) 0
+unfolding netOf listOf
+stops-are w r e =
+    e ∙ (rw add-zero at (tab-shift (sec w 12) (λ p. sec w 12 (sec w 11 r + p)) (count w 11 r) 0 (sec w 11 r) (λ p. refl)))

@@ -1,0 +1,18 @@
+-- `walks_to`: the stop is an entry of the starts, none of which is past the rows.
+use borrow.Author.Needs.{needs}
+use Rattle.repository.specs.Rows.{walks, startsOf, pastRow}
+use Rattle.repository.proofs.Rooms.{row-of-stop}
+use Rattle.repository.proofs.Reading.{past-known}
+use Rattle.repository.proofs.footpaths.walks_to.Statement.{statement}
+use Rattle.repository.proofs.footpaths.walks_to.Tie as tie
+
+row-to-requires : tie.Need-row-to-requires
+unfolding startsOf
+row-to-requires c κs = search (needs, row-of-stop walks)
+
+returns : tie.Need-returns
+unfolding pastRow startsOf
+returns c = (search needs, search (needs, past-known walks))
+
+pub walks-to-spec : {M : Type 1} → statement M
+walks-to-spec = tie.close (tie.spec row-to-requires returns)

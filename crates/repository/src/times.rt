@@ -1,0 +1,36 @@
+// The moments of a trip. Its first row of times is looked up once, when it is boarded; the moments at its positions are
+// then read by that row.
+ghost use mathlib.Core.Path.{_≡_};
+ghost use Prim.Native.Nat.{_+_, _<_};
+ghost use Rattle.repository.specs.Laid.{Laid};
+ghost use Rattle.repository.specs.Rows.{tripCount, timeCount, timeRow, arrivalIn, departureIn};
+use shared::Time;
+
+// The first row of a trip's times.
+pub fn time_row(tables: &[u32], v: u32) -> u32
+    requires { ⌜ Laid (now tables) ⌝ }
+    requires { ⌜ v < tripCount (now tables) ⌝ }
+    ensures { λ a. ⌜ a ≡ timeRow (now (tables .entry)) v ⌝ }
+{
+    super::row_from(tables, 15, v)
+}
+
+// When the trip whose times begin at a row arrives at position p.
+pub fn arrival_in(tables: &[u32], row: u32, p: u32) -> Time
+    requires { ⌜ Laid (now tables) ⌝ }
+    requires { ⌜ row + p < timeCount (now tables) ⌝ }
+    ensures { λ t. ⌜ t .0 ≡ arrivalIn (now (tables .entry)) row p ⌝ }
+{
+    let at = (row as usize + p as usize) * 2;
+    Time(super::word(tables, 16, at))
+}
+
+// When it departs from there.
+pub fn departure_in(tables: &[u32], row: u32, p: u32) -> Time
+    requires { ⌜ Laid (now tables) ⌝ }
+    requires { ⌜ row + p < timeCount (now tables) ⌝ }
+    ensures { λ t. ⌜ t .0 ≡ departureIn (now (tables .entry)) row p ⌝ }
+{
+    let at = (row as usize + p as usize) * 2 + 1;
+    Time(super::word(tables, 16, at))
+}

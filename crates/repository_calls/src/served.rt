@@ -1,0 +1,59 @@
+// The rule for served marks.
+ghost use mathlib.Core.Path.{_≡_};
+ghost use mathlib.Core.Bool.{true};
+ghost use Prim.Native.Nat.{_<_};
+ghost use Rattle.repository.specs.Sections.{stops};
+ghost use Rattle.repository.specs.Laid.{Laid};
+ghost use Rattle.repository.specs.Listed.{callsHold, passes, servedMark, served};
+use crate::words::count_of;
+use crate::words::item;
+use crate::words::size_of;
+
+// Whether a trip passes stop s.
+fn passed(tables: &[u32], s: u32) -> bool
+    requires { ⌜ Laid (now tables) ⌝ }
+    requires { ⌜ callsHold (now tables) ≡ true ⌝ }
+    requires { ⌜ s < stops (now tables) ⌝ }
+    ensures { λ ok. ⌜ ok ≡ passes (now (tables .entry)) s ⌝ }
+{
+    let mut j = item(tables, 4, s as usize);
+    let end = item(tables, 4, s as usize + 1);
+    while j < end {
+        let r = item(tables, 5, j as usize * 3);
+        if count_of(tables, 13, r) > 0 {
+            return true;
+        }
+        j += 1;
+    }
+    false
+}
+
+fn served_mark_ok(tables: &[u32], s: u32) -> bool
+    requires { ⌜ Laid (now tables) ⌝ }
+    requires { ⌜ callsHold (now tables) ≡ true ⌝ }
+    requires { ⌜ s < stops (now tables) ⌝ }
+    ensures { λ ok. ⌜ ok ≡ servedMark (now (tables .entry)) s ⌝ }
+{
+    let mark = item(tables, 6, s as usize);
+    if passed(tables, s) {
+        return mark == 1;
+    }
+    mark == 0
+}
+
+// Whether each stop's served mark is set exactly when a trip passes it.
+pub fn served_ok(tables: &[u32]) -> bool
+    requires { ⌜ Laid (now tables) ⌝ }
+    requires { ⌜ callsHold (now tables) ≡ true ⌝ }
+    ensures { λ ok. ⌜ ok ≡ served (now (tables .entry)) ⌝ }
+{
+    let n = size_of(tables, 0);
+    let mut s: u32 = 0;
+    while s < n {
+        if !served_mark_ok(tables, s) {
+            return false;
+        }
+        s += 1;
+    }
+    true
+}

@@ -1,0 +1,25 @@
+-- `walk_ok`: the word is in the row.
+use borrow.Author.Needs.{needs}
+use Rattle.repository_check.specs.Distances.{walkFit}
+use Rattle.repository_check.proofs.Rooms.{walk-room}
+use Rattle.repository_check.proofs.distances.walk_ok.Statement.{statement}
+use Rattle.repository_check.proofs.distances.walk_ok.Tie as tie
+
+mul-word : tie.Need-mul-word
+mul-word c = search needs
+
+add-word : tie.Need-add-word
+add-word c = search needs
+
+word-requires : tie.Need-word-requires
+word-requires c κs = (search needs, search (needs, walk-room))
+
+distance-ok-requires : tie.Need-distance-ok-requires
+distance-ok-requires c κs = search needs
+
+returns : tie.Need-returns
+unfolding walkFit
+returns c = cc
+
+pub walk-ok-spec : {M : Type 1} → statement M
+walk-ok-spec = tie.close (tie.spec mul-word add-word word-requires distance-ok-requires returns)

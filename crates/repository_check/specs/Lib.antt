@@ -1,0 +1,3 @@
+pub mod Stands
+pub mod Distances
+pub mod Says

@@ -1,0 +1,71 @@
+// Number 5: the distances, and the transfers' stated spans.
+ghost use mathlib.Core.Path.{_≡_};
+ghost use Prim.Native.Nat.{_<_};
+ghost use Rattle.base.specs.All.{all};
+ghost use Rattle.repository.specs.Sections.{rows};
+ghost use Rattle.repository.specs.Laid.{Laid};
+ghost use Rattle.repository.specs.Checked.{measured};
+ghost use Rattle.repository_check.specs.Distances.{transferFit, walkFit};
+
+fn transfer_ok(tables: &[u32], j: usize) -> bool
+    requires { ⌜ Laid (now tables) ⌝ }
+    requires { ⌜ j < rows (now tables) 8 4 ⌝ }
+    ensures { λ ok. ⌜ ok ≡ transferFit (now (tables .entry)) j ⌝ }
+{
+    let span = repository::word(tables, 8, j * 4 + 2);
+    let bits = repository::word(tables, 8, j * 4 + 3);
+    ((span == 4_294_967_295) | (span <= 86_400)) & shared::distance_ok(bits)
+}
+
+fn walk_ok(tables: &[u32], j: usize) -> bool
+    requires { ⌜ Laid (now tables) ⌝ }
+    requires { ⌜ j < rows (now tables) 10 2 ⌝ }
+    ensures { λ ok. ⌜ ok ≡ walkFit (now (tables .entry)) j ⌝ }
+{
+    let bits = repository::word(tables, 10, j * 2 + 1);
+    shared::distance_ok(bits)
+}
+
+fn transfers_ok(tables: &[u32], m: usize) -> bool
+    requires { ⌜ Laid (now tables) ⌝ }
+    requires { ⌜ m ≡ rows (now tables) 8 4 ⌝ }
+    ensures { λ ok. ⌜ ok ≡ all (transferFit (now (tables .entry))) 0 m ⌝ }
+{
+    let mut j = 0;
+    while j < m {
+        let ok = transfer_ok(tables, j);
+        if ok {
+            j += 1;
+        } else {
+            return false;
+        }
+    }
+    true
+}
+
+fn walks_ok(tables: &[u32], m: usize) -> bool
+    requires { ⌜ Laid (now tables) ⌝ }
+    requires { ⌜ m ≡ rows (now tables) 10 2 ⌝ }
+    ensures { λ ok. ⌜ ok ≡ all (walkFit (now (tables .entry))) 0 m ⌝ }
+{
+    let mut j = 0;
+    while j < m {
+        let ok = walk_ok(tables, j);
+        if ok {
+            j += 1;
+        } else {
+            return false;
+        }
+    }
+    true
+}
+
+// Whether there is no number 5.
+pub fn distances_ok(tables: &[u32]) -> bool
+    requires { ⌜ Laid (now tables) ⌝ }
+    ensures { λ ok. ⌜ ok ≡ measured (now (tables .entry)) ⌝ }
+{
+    let transfers = repository_shape::size_of(tables, 8) / 4;
+    let walks = repository_shape::size_of(tables, 10) / 2;
+    transfers_ok(tables, transfers) & walks_ok(tables, walks)
+}

@@ -1,0 +1,9 @@
+-- Laws that belong to no one function.
+pub mod Fits
+pub mod Marking
+pub mod Rows
+pub mod Parts
+pub mod Facts
+pub mod CallRows
+pub mod Shown
+pub mod Kept

@@ -1,0 +1,74 @@
+-- The test of one number or one row, from the words that the code read.
+use Prim.Native.Nat.{ℕ, _+_, _-_, _*_, _≤_, _<_}
+use mathlib.Core.Path.{_≡_, refl, sym, ap, _∙_}
+use mathlib.Core.Bool.{Bool, true, false}
+use mathlib.Core.List.{List}
+use native.Mathlib.Omega.{arith}
+use lib.Dec.{ltb, eqb}
+use lib.ListN.{length}
+use borrow.Author.Tests.{lt-ltb, le-ltb, eq-eqb, ne-eqb}
+use Rattle.model.specs.Moments.{MAX}
+use Rattle.repository.specs.Sections.{size, sec, stops}
+use Rattle.repository.specs.NetOf.{count}
+use Rattle.marks.specs.Marks.{marked}
+use Rattle.marks.proofs.Stand.{Stand}
+use Rattle.repository.specs.Listed.{among, inPlace, station, child, ofStation, timeEach, transfer, walk}
+
+module _ (w : List ℕ) (s : ℕ) {r : ℕ} (e : r ≡ sec w 0 s) where
+  pub place-right : r ≡ s → inPlace w s ≡ true
+  unfolding inPlace
+  place-right h = eq-eqb (sec w 0 s) s (sym e ∙ h)
+
+  pub place-wrong : (r ≡ s → ⊥) → inPlace w s ≡ false
+  unfolding inPlace
+  place-wrong h = ne-eqb (sec w 0 s) s (λ g. h (e ∙ g))
+
+module _ (w : List ℕ) (s : ℕ) {p : ℕ} (e : p ≡ sec w 1 s) where
+  pub station-none : p ≡ MAX → true ≡ station w s
+  unfolding station
+  station-none h = rw (← e, h)
+
+  pub station-is : {n : ℕ} → (p ≡ MAX → ⊥) → n ≡ size w 0 → ltb p n ≡ station w s
+  unfolding station
+  station-is h g = rw (← e, ne-eqb p MAX h, g)
+
+module _ (w : List ℕ) (p j : ℕ) {s n : ℕ} (e : s ≡ sec w 3 j) (f : n ≡ size w 0) where
+  pub child-names : {q : ℕ} → s < n → q ≡ sec w 1 s → eqb q p ≡ child w p j
+  unfolding child
+  child-names h g = rw (← e, ← f, lt-ltb s n h, ← g)
+
+  pub child-out : n ≤ s → false ≡ child w p j
+  unfolding child
+  child-out h = rw (← e, ← f, le-ltb s n h)
+
+module _ (w : List ℕ) (s : ℕ) {p : ℕ} (e : p ≡ sec w 1 s) where
+  pub no-station : p ≡ MAX → true ≡ ofStation w s
+  unfolding ofStation
+  no-station h = rw (← e, h)
+
+  pub child-marked : {ws : List ℕ} {ok : Bool} → (p ≡ MAX → ⊥) → Stand ws (among w 3 0 (size w 3)) → stops w ≤ 64 * length ws
+      → s < stops w → ok ≡ marked ws s → ok ≡ ofStation w s
+  unfolding ofStation
+  child-marked h m l g is = is ∙ m .agree s (omega arith) ∙ rw (← e, ne-eqb p MAX h)
+
+pub times-each : (w : List ℕ) (r i : ℕ) {v m n : ℕ} → v ≡ sec w 14 i → m ≡ count w 15 v → n ≡ count w 11 r → eqb m n ≡ timeEach w r i
+unfolding timeEach
+times-each w r i e f g = rw (← e, f, g)
+
+module _ (w : List ℕ) (s j : ℕ) {u : ℕ} (e : u ≡ sec w 8 (j * 4)) where
+  pub transfer-other : (u ≡ s → ⊥) → false ≡ transfer w s j
+  unfolding transfer
+  transfer-other h = rw (← e, ne-eqb u s h)
+
+  pub transfer-leads : {v n : ℕ} → u ≡ s → v ≡ sec w 8 (j * 4 + 1) → n ≡ size w 0 → ltb v n ≡ transfer w s j
+  unfolding transfer
+  transfer-leads h f g = rw (← e, eq-eqb u s h, ← f, ← g)
+
+module _ (w : List ℕ) (j : ℕ) {r n : ℕ} (e : r ≡ sec w 10 (j * 2)) (f : n ≡ size w 0) where
+  pub walk-right : r < n → walk w j ≡ true
+  unfolding walk
+  walk-right h = rw (← e, ← f) (lt-ltb r n h)
+
+  pub walk-wrong : n ≤ r → walk w j ≡ false
+  unfolding walk
+  walk-wrong h = rw (← e, ← f) (le-ltb r n h)

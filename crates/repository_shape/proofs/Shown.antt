@@ -1,0 +1,162 @@
+-- What the tests for number 1 show. `Passed` has the other way round: `laid w ≡ true` and `Laid w` say the same.
+use Prim.Native.Nat.{ℕ, _+_, _-_, _%_, _≤_, _<_}
+use mathlib.Core.Path.{_≡_, sym, _∙_}
+use mathlib.Core.Bool.{Bool, true, _&&_}
+use mathlib.Core.List.{List, [], _∷_}
+use native.Mathlib.Omega.{arith}
+use lib.Dec.{leb, eqb}
+use lib.ListN.{length, getD}
+use borrow.Author.Tests.{leb-true, eqb-true}
+use Rattle.base.specs.All.{all, all-at}
+use Rattle.repository.specs.Sections.{start, size, sec, stops, routes, trips, areas, rows}
+use Rattle.repository.specs.NetOf.{count}
+use Rattle.repository.specs.Laid.{headed, sized, limited, starting, started, positioned, laid, Starts, Laid}
+use Rattle.repository_shape.specs.Shape.{Headed, Roomy, routeFits}
+use Rattle.repository_shape.proofs.Joined.{joined-at}
+
+-- the tests of each part, in their order
+module _ (w : List ℕ) where
+  abbrev headTests : List Bool
+  headTests =
+      leb 20 (length w) ∷ eqb (start w 0) 20 ∷ eqb (start w 19) (length w)
+      ∷ all (λ k. leb (start w k) (start w (k + 1))) 0 19 ∷ []
+
+  abbrev sizeTests : List Bool
+  sizeTests =
+      eqb (size w 1) (stops w) ∷ eqb (size w 2) (stops w + 1) ∷ eqb (size w 4) (stops w + 1) ∷ eqb (size w 6) (stops w)
+      ∷ eqb (size w 7) (stops w + 1) ∷ eqb (size w 9) (stops w + 1) ∷ leb 1 (size w 11) ∷ eqb (size w 13) (size w 11)
+      ∷ leb 1 (size w 15) ∷ eqb (size w 14) (trips w) ∷ leb 1 (size w 17)
+      ∷ eqb (size w 5 % 3) 0 ∷ eqb (size w 8 % 4) 0 ∷ eqb (size w 10 % 2) 0 ∷ eqb (size w 16 % 2) 0 ∷ []
+
+  abbrev limitTests : List Bool
+  limitTests =
+      leb (stops w) 4_096 ∷ leb (routes w) 1_024 ∷ leb (trips w) 16_384 ∷ leb (rows w 16 2) 262_144
+      ∷ leb (rows w 8 4) 16_384 ∷ leb (rows w 10 2) 32_768 ∷ leb (areas w) 1_024 ∷ leb (size w 18) 16_384 ∷ []
+
+  abbrev startTests : List Bool
+  startTests =
+      starting w 2 (stops w) (size w 3) ∷ starting w 4 (stops w) (rows w 5 3) ∷ starting w 7 (stops w) (rows w 8 4)
+      ∷ starting w 9 (stops w) (rows w 10 2) ∷ starting w 11 (routes w) (size w 12) ∷ starting w 13 (routes w) (size w 14)
+      ∷ starting w 15 (trips w) (rows w 16 2) ∷ starting w 17 (areas w) (size w 18) ∷ []
+
+  -- each part's tests pass where the part does
+  headed-at : headed w ≡ true → (i : ℕ) → getD headTests i true ≡ true
+  unfolding headed
+  headed-at e = joined-at true headTests e
+
+  sized-at : sized w ≡ true → (i : ℕ) → getD sizeTests i true ≡ true
+  unfolding sized
+  sized-at e = joined-at true sizeTests e
+
+  limited-at : limited w ≡ true → (i : ℕ) → getD limitTests i true ≡ true
+  unfolding limited
+  limited-at e = joined-at true limitTests e
+
+  started-at : started w ≡ true → (i : ℕ) → getD startTests i true ≡ true
+  unfolding started
+  started-at e = joined-at true startTests e
+
+  laid-at : laid w ≡ true → (i : ℕ) → getD (headed w ∷ sized w ∷ limited w ∷ started w ∷ positioned w ∷ []) i true ≡ true
+  unfolding laid
+  laid-at e = joined-at true (headed w ∷ sized w ∷ limited w ∷ started w ∷ positioned w ∷ []) e
+
+  rising-at : headed w ≡ true → (k : ℕ) → k < 19 → start w k ≤ start w (k + 1)
+  rising-at e k g = leb-true _ _ (all-at (λ k. leb (start w k) (start w (k + 1))) 0 19 (headed-at e 3) k (omega arith) g)
+
+  positioned-at : positioned w ≡ true → (r : ℕ) → r < routes w → (i : ℕ)
+      → getD (leb 1 (count w 11 r) ∷ leb (count w 11 r) 128 ∷ []) i true ≡ true
+  unfolding positioned routeFits
+  positioned-at e r g =
+      joined-at true (leb 1 (count w 11 r) ∷ leb (count w 11 r) 128 ∷ []) (all-at (routeFits w) 0 (routes w) e r (omega arith) g)
+
+  -- a starts section
+  module _ (k n m : ℕ) where
+    abbrev startingTests : List Bool
+    startingTests = eqb (sec w k 0) 0 ∷ eqb (sec w k n) m ∷ all (λ i. leb (sec w k i) (sec w k (i + 1))) 0 n ∷ []
+
+    starting-at : starting w k n m ≡ true → (i : ℕ) → getD startingTests i true ≡ true
+    unfolding starting
+    starting-at e = joined-at true startingTests e
+
+    starting-shown : starting w k n m ≡ true → Starts w k n m
+    starting-shown e = record {
+      first = eqb-true _ _ (starting-at e 0);
+      last = eqb-true _ _ (starting-at e 1);
+      rise = λ i g.
+          leb-true _ _ (all-at (λ i. leb (sec w k i) (sec w k (i + 1))) 0 n (starting-at e 2) i (omega arith) g);
+    }
+
+-- what the code knows once a part has passed
+pub headed-known : (w : List ℕ) {b : Bool} → b ≡ headed w → b ≡ true → Headed w
+headed-known w e t =
+    let h = sym e ∙ t in
+    record { head = leb-true _ _ (headed-at w h 0); last = eqb-true _ _ (headed-at w h 2); rise = rising-at w h }
+
+pub sized-known : (w : List ℕ) {b : Bool} → b ≡ sized w → b ≡ true → Roomy w
+sized-known w e t =
+    let at = sized-at w (sym e ∙ t) in
+    let z2 : size w 2 ≡ stops w + 1 = eqb-true _ _ (at 1) in
+    let z4 : size w 4 ≡ stops w + 1 = eqb-true _ _ (at 2) in
+    let z7 : size w 7 ≡ stops w + 1 = eqb-true _ _ (at 4) in
+    let z9 : size w 9 ≡ stops w + 1 = eqb-true _ _ (at 5) in
+    let z11 : 1 ≤ size w 11 = leb-true _ _ (at 6) in
+    let z13 : size w 13 ≡ size w 11 = eqb-true _ _ (at 7) in
+    let z15 : 1 ≤ size w 15 = leb-true _ _ (at 8) in
+    let z17 : 1 ≤ size w 17 = leb-true _ _ (at 10) in
+    record {
+      child-room = omega arith;
+      call-room = omega arith;
+      transfer-room = omega arith;
+      walk-room = omega arith;
+      stop-room = omega arith;
+      trip-room = omega arith;
+      time-room = omega arith;
+      area-room = omega arith;
+    }
+
+pub laid-shown : {w : List ℕ} → laid w ≡ true → Laid w
+laid-shown {w} e =
+    let parts = laid-at w e in
+    let head = headed-at w (parts 0) in
+    let size = sized-at w (parts 1) in
+    let limit = limited-at w (parts 2) in
+    let starts = started-at w (parts 3) in
+    record {
+      head = leb-true _ _ (head 0);
+      first = eqb-true _ _ (head 1);
+      last = eqb-true _ _ (head 2);
+      rise = rising-at w (parts 0);
+      size-1 = eqb-true _ _ (size 0);
+      size-2 = eqb-true _ _ (size 1);
+      size-4 = eqb-true _ _ (size 2);
+      size-6 = eqb-true _ _ (size 3);
+      size-7 = eqb-true _ _ (size 4);
+      size-9 = eqb-true _ _ (size 5);
+      size-11 = leb-true _ _ (size 6);
+      size-13 = eqb-true _ _ (size 7);
+      size-15 = leb-true _ _ (size 8);
+      size-14 = eqb-true _ _ (size 9);
+      size-17 = leb-true _ _ (size 10);
+      calls = eqb-true _ _ (size 11);
+      transfers = eqb-true _ _ (size 12);
+      walks = eqb-true _ _ (size 13);
+      times = eqb-true _ _ (size 14);
+      stops-limit = leb-true _ _ (limit 0);
+      routes-limit = leb-true _ _ (limit 1);
+      trips-limit = leb-true _ _ (limit 2);
+      times-limit = leb-true _ _ (limit 3);
+      transfers-limit = leb-true _ _ (limit 4);
+      walks-limit = leb-true _ _ (limit 5);
+      areas-limit = leb-true _ _ (limit 6);
+      entries-limit = leb-true _ _ (limit 7);
+      child-starts = starting-shown w _ _ _ (starts 0);
+      call-starts = starting-shown w _ _ _ (starts 1);
+      transfer-starts = starting-shown w _ _ _ (starts 2);
+      walk-starts = starting-shown w _ _ _ (starts 3);
+      stop-starts = starting-shown w _ _ _ (starts 4);
+      trip-starts = starting-shown w _ _ _ (starts 5);
+      time-starts = starting-shown w _ _ _ (starts 6);
+      area-starts = starting-shown w _ _ _ (starts 7);
+      some-stop = λ r g. leb-true _ _ (positioned-at w (parts 4) r g 0);
+      positions-limit = λ r g. leb-true _ _ (positioned-at w (parts 4) r g 1);
+    }
