@@ -8,7 +8,8 @@ fn number(words: &[u32], count: usize) -> u32 {
     if words.len() < count {
         return 1;
     }
-    repository_check::check(&words[..count])
+    let first = 0;
+    repository_check::check(&words[first..count])
 }
 
 // Prints the number of a line's tables, once the line has ended. The value of `net` is its last letter's.

@@ -2,10 +2,9 @@
 -- so that the code that makes it can say so.
 use Prim.Native.Nat.{ℕ, _+_, _-_, _*_}
 use mathlib.Core.Bool.{Bool, true, false, cond, _&&_, _||_}
-use mathlib.Core.List.{List, [], _∷_}
+use mathlib.Core.List.{List}
 use lib.Dec.{ltb, leb, eqb}
 use Rattle.base.specs.All.{all}
-use Rattle.base.specs.Tab.{tab}
 use Rattle.model.specs.Moments.{MAX}
 use Rattle.repository.specs.Sections.{size, sec, stops, routes, trips, areas, rows}
 use Rattle.repository.specs.NetOf.{count}

@@ -1,0 +1,7 @@
+-- Laws that belong to no one function.
+pub mod Steps
+pub mod Behind
+pub mod Counted
+pub mod Order
+pub mod Writing
+pub mod Reached

@@ -1,0 +1,29 @@
+-- What a caller gives and may know: the way back from a target that a search reached is traced, and it has a leg.
+-- Assumes nothing.
+use Prim.Native.Nat.{ℕ, _<_}
+use mathlib.Core.List.{List}
+use mathlib.Core.Option.{Option}
+use native.Mathlib.Omega.{arith}
+use lib.ListN.{length}
+use Rattle.model.specs.declared.Direction.{Direction}
+use Rattle.model.specs.declared.Leg.{Leg}
+use Rattle.model.specs.declared.Target.{Target}
+use Rattle.model.specs.Back.{back}
+use Rattle.model.specs.State.{Task}
+use Rattle.model.specs.Tables.{Net}
+use Rattle.model.proofs.Search.{Reached}
+use Rattle.model.proofs.Way.{Way, ends, leads, way-is}
+use Rattle.path.specs.Traced.{Traced}
+
+pub reached-traced : (n : Net) (q : Task) {k : ℕ} {w : List (Option Leg)} {g : Target} → Reached n q k w g
+    → Traced (q .direction) (n .stops) w (g .round) (g .stop)
+reached-traced n q h = record { legs = h .good .legs; way = h .good .way; short = h .short }
+
+-- so 11, "a chosen stop but no leg", is never given
+pub some-leg : {d : Direction} {n : ℕ} {w : List (Option Leg)} {k s : ℕ} → Traced d n w k s
+    → 0 < length (back d n w n k s)
+some-leg {d} {n} {w} t = rw (way-is d n w (t .way) n (t .short)) (go (t .way))
+  where
+    go : {k s : ℕ} {gs : List Leg} → Way d n w k s gs → 0 < length gs
+    go (ends i e o) = omega arith
+    go (leads i e o b) = omega arith

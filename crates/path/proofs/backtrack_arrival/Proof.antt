@@ -1,0 +1,82 @@
+-- `path::backtrack_arrival` meets its contract: the legs left start where the last one written ends.
+-- Assumes nothing.
+use borrow.Author.Needs.{needs}
+use lib.ListN.{length}
+use Rattle.model.specs.declared.Direction.the-variants.{Arrival}
+use Rattle.model.specs.Back.{back}
+use Rattle.allocator.specs.Layout.{parentsOf}
+use Rattle.path.proofs.Behind.{stop-known, leg-there, fewer}
+use Rattle.path.proofs.Writing.{Writing, writing-none, after-fits, after-on, after-all}
+use Rattle.path.proofs.backtrack_arrival.Statement.{statement}
+use Rattle.path.proofs.backtrack_arrival.Tie as tie
+
+abbrev Inv-loop : tie.InvT-loop
+Inv-loop words journey₀ n m k s size round₀ stop₀ at₀ journey round stop at =
+    Writing Arrival n (parentsOf n m words) k s journey₀ round stop at size journey
+
+abbrev μ-loop : tie.MeasureT-loop
+μ-loop words journey₀ n m k s size round₀ stop₀ at₀ journey round stop at =
+    length (back Arrival n (parentsOf n m words) n round stop)
+
+loop-holds : tie.Need-loop-holds Inv-loop μ-loop
+loop-holds c = search (needs, writing-none)
+
+parent-at-requires : tie.Need-parent-at-requires Inv-loop μ-loop
+parent-at-requires c κs = (search needs, (search (needs, stop-known), search needs))
+
+enum-known-parent : tie.Need-enum-known-parent Inv-loop μ-loop
+enum-known-parent c = search needs
+
+enum-told : tie.Need-enum-told Inv-loop μ-loop
+enum-told c = search needs
+
+same-length : tie.Need-same-length Inv-loop μ-loop
+same-length c = search needs
+
+returns : tie.Need-returns Inv-loop μ-loop
+returns c = absurd (search (needs, leg-there))
+
+write-after-requires : tie.Need-write-after-requires Inv-loop μ-loop
+write-after-requires c κs = search (needs, after-fits)
+
+step-back-requires : tie.Need-step-back-requires Inv-loop μ-loop
+step-back-requires c κs = search needs
+
+enum-known-next : tie.Need-enum-known-next Inv-loop μ-loop
+enum-known-next c = search needs
+
+enum-told-2 : tie.Need-enum-told-2 Inv-loop μ-loop
+enum-told-2 c = search needs
+
+same-length-2 : tie.Need-same-length-2 Inv-loop μ-loop
+same-length-2 c = search needs
+
+returns-2 : tie.Need-returns-2 Inv-loop μ-loop
+returns-2 c = search (needs, after-all)
+
+loop-less : tie.Need-loop-less Inv-loop μ-loop
+loop-less c = search (needs, fewer)
+
+loop-again : tie.Need-loop-again Inv-loop μ-loop
+loop-again c = search (needs, after-on)
+
+pub backtrack-arrival-spec : {M : Type 1} → statement M
+backtrack-arrival-spec =
+    tie.close
+    (tie.spec
+    Inv-loop
+    μ-loop
+    loop-holds
+    parent-at-requires
+    enum-known-parent
+    enum-told
+    same-length
+    returns
+    write-after-requires
+    step-back-requires
+    enum-known-next
+    enum-told-2
+    same-length-2
+    returns-2
+    loop-less
+    loop-again)

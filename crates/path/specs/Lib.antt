@@ -1,0 +1,3 @@
+-- The definitions that the contracts of `path` cite.
+pub mod Step
+pub mod Traced
