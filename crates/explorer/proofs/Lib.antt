@@ -1,1 +1,3 @@
 pub mod Fused
+pub mod Turns
+pub mod Marked

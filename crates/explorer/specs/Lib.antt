@@ -1,2 +1,3 @@
 pub mod Applied
 pub mod Fused
+pub mod Turns

@@ -1,24 +1,17 @@
--- What a call asks of an index that was found in range: an entry of a starts section.
+-- What reading on asks of an index that was found in range: an entry of a starts section, or room in a list.
 use Prim.Native.Nat.{ℕ, _+_, _-_, _*_, _≤_, _<_}
-use mathlib.Core.Path.{_≡_, sym, _∙_}
-use mathlib.Core.Bool.{Bool, true, false}
+use mathlib.Core.Path.{_≡_}
+use mathlib.Core.Bool.{true}
 use mathlib.Core.List.{List}
 use native.Mathlib.Omega.{arith}
-use lib.Dec.{ltb}
-use borrow.Author.Tests.{ltb-true}
-use Rattle.base.specs.Choice.{and-left}
-use Rattle.base.specs.All.{all-at}
 use Rattle.repository.specs.Sections.{size, sec, stops, routes}
 use Rattle.repository.specs.Laid.{Laid}
 use Rattle.repository.specs.NetOf.{count}
-use Rattle.repository.specs.Listed.{indexed, inRange, under, call, callsHold}
+use Rattle.repository.specs.Listed.{call, callsHold}
 use Rattle.repository_calls.specs.Entry.{Entry}
 use Rattle.repository_calls.proofs.Rooms.{end-in}
-
--- an index of a list in range
-pub index-below : (w : List ℕ) (k n i : ℕ) → inRange w k n ≡ true → i < size w k → sec w k i < n
-unfolding inRange indexed
-index-below w k n i e h = ltb-true (sec w k i) n (all-at (indexed w k n) 0 (size w k) e i (omega arith) h)
+use Rattle.repository_calls.proofs.Facts.{under-shown}
+use Rattle.repository_calls.proofs.CallRows.{call-shown}
 
 module _ {w : List ℕ} (l : Laid w) where
   pub route-entry : (r : ℕ) → r < routes w → Entry w 11 r
@@ -33,11 +26,10 @@ module _ {w : List ℕ} (l : Laid w) where
   call-word s j hs ee to = omega (arith, end-in (l .call-starts) (s + 1) (omega arith))
 
   -- it names a route
-  pub call-entry : (s j : ℕ) {r a e : ℕ} → callsHold w ≡ true → s < stops w → a ≡ sec w 4 s → e ≡ sec w 4 (s + 1) → a ≤ j → j < e
-      → r ≡ sec w 5 (j * 3) → Entry w 13 r
-  unfolding callsHold under call
+  pub call-entry : (s j : ℕ) {r a e : ℕ} → callsHold w ≡ true → s < stops w → a ≡ sec w 4 s → e ≡ sec w 4 (s + 1)
+      → a ≤ j → j < e → r ≡ sec w 5 (j * 3) → Entry w 13 r
+  unfolding callsHold
   call-entry s j {r} t hs ea ee from to er =
-      let rows = all-at (under w 4 (call w)) 0 (stops w) t s (omega arith) hs in
-      let row = all-at (call w s) (sec w 4 s) (sec w 4 (s + 1)) rows j (omega arith) (omega arith) in
-      let below : r < routes w = rw er (ltb-true (sec w 5 (j * 3)) (routes w) (and-left _ _ (and-left _ _ (and-left _ _ (and-left _ _ row))))) in
+      let row = under-shown w 4 (stops w) (call w) t s j hs (record { from = omega arith; to = omega arith }) in
+      let below : r < routes w = rw er (call-shown w s j row .route) in
       record { section = omega arith; word = omega arith; rise = l .trip-starts .rise r below }

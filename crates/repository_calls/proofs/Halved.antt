@@ -1,10 +1,10 @@
 -- The call that names a route, found by halving a stop's calls, which ascend.
 use Prim.Native.Nat.{ℕ, zero, suc, _+_, _-_, _*_, _≤_, _<_}
-use mathlib.Core.Path.{_≡_, refl, sym, ap, _∙_}
-use mathlib.Core.Bool.{Bool, true, false, true≢false}
+use mathlib.Core.Path.{_≡_, refl, sym, _∙_}
+use mathlib.Core.Bool.{Bool, true, false}
 use mathlib.Core.List.{List}
 use native.Mathlib.Omega.{arith}
-use lib.Dec.{leb, ltb, eqb}
+use lib.Dec.{leb, ltb}
 use borrow.Author.Tests.{ltb-true, ltb-false, leb-true, leb-false, le-leb, lt-leb, eqb-true}
 use Rattle.base.specs.Choice.{split, and-left}
 use Rattle.base.specs.All.{all-at}
@@ -15,9 +15,10 @@ use Rattle.repository.specs.Laid.{Laid}
 use Rattle.repository.specs.Listed.{some, routeStops, later, ascending, callsRise, calls, called}
 use Rattle.repository_calls.specs.Entry.{Entry}
 use Rattle.repository_calls.specs.Reached.{reached}
-use Rattle.repository_calls.proofs.Ranges.{Some, both-ways, some-shown, some-so}
+use Rattle.repository_calls.proofs.Ranges.{both-ways, some-shown, some-so}
 use Rattle.repository_calls.proofs.Rooms.{end-in}
-use Rattle.repository_calls.proofs.Entries.{index-below, stop-room}
+use Rattle.repository_calls.proofs.Facts.{index-shown}
+use Rattle.repository_calls.proofs.Entries.{stop-room}
 
 -- ---- halves
 module _ (w : List ℕ) (a r i : ℕ) {q : ℕ} (e : q ≡ sec w 5 ((a + i) * 3)) where
@@ -49,7 +50,8 @@ module _ (w : List ℕ) (s : ℕ) (t : callsRise w ≡ true) (hs : s < stops w) 
       rw next at (step (x + suc 0) (omega arith) to)
   climb (suc d) x from to =
       let next : x + suc (suc d) - 1 ≡ x + suc d = omega arith in
-      let last : sec w 5 ((x + suc d) * 3) < sec w 5 ((x + suc (suc d)) * 3) = rw next at (step (x + suc (suc d)) (omega arith) to) in
+      let last : sec w 5 ((x + suc d) * 3) < sec w 5 ((x + suc (suc d)) * 3) =
+      rw next at (step (x + suc (suc d)) (omega arith) to) in
       omega (arith, climb d x from (omega arith))
 
   route-later : (x y : ℕ) → sec w 4 s ≤ x → x < y → y < sec w 4 (s + 1) → sec w 5 (x * 3) < sec w 5 (y * 3)
@@ -62,7 +64,7 @@ module _ {w : List ℕ} {r p s : ℕ} (l : Laid w) (t : routeStops w ≡ true) (
     (es : s ≡ sec w 12 (sec w 11 r + p)) where
   stop-in : s < stops w
   unfolding routeStops
-  stop-in = rw es (index-below w 12 (stops w) (sec w 11 r + p) t (stop-room l hr hp refl))
+  stop-in = rw es (index-shown w 12 (stops w) t (sec w 11 r + p) (stop-room l hr hp refl))
 
   pub stop-word : s < size w 4
   stop-word = omega (arith, stop-in)
@@ -135,5 +137,8 @@ module _ {w : List ℕ} {r p s : ℕ} (l : Laid w) (t : routeStops w ≡ true) (
         pub called-there : {ok : Bool} → i < n → ok ≡ calls w r p (a + i) → ok ≡ called w r p
         called-there {ok} h is =
             both-ways ok (called w r p)
-            (λ e. rows-is ∙ some-so (calls w r p) a (a + n) (record { at = a + i; from = omega arith; to = omega arith; passes = sym is ∙ e }))
+            (λ e.
+            rows-is
+            ∙ some-so (calls w r p) a (a + n)
+            (record { at = a + i; from = omega arith; to = omega arith; passes = sym is ∙ e }))
             (λ e. is ∙ here e .1)

@@ -1,6 +1,6 @@
 -- What a test of a range of numbers says of each of them, both ways.
 use Prim.Native.Nat.{ℕ, zero, suc, _+_, _-_, _≤_, _<_}
-use mathlib.Core.Path.{_≡_, refl, sym, ap, _∙_}
+use mathlib.Core.Path.{_≡_, refl, sym, ap}
 use mathlib.Core.Bool.{Bool, true, false, cond, not, _||_, or-true, true≢false}
 use native.Mathlib.Omega.{arith}
 use lib.Dec.{eqb}
@@ -57,7 +57,12 @@ some-shown f a b e =
     (λ t. absurd (true≢false (sym (rw t at e))))
     (λ t.
     let found = every-fault (fails f) (b - a) a t in
-    record { at = found .at; from = found .from; to = omega (arith, found .from, found .to); passes = some-not f (found .at) (found .passes) })
+    record {
+      at = found .at;
+      from = found .from;
+      to = omega (arith, found .from, found .to);
+      passes = some-not f (found .at) (found .passes);
+    })
 
 pub some-so : (f : ℕ → Bool) (a b : ℕ) → Some f a b → some f a b ≡ true
 unfolding some fails

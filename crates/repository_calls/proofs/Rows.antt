@@ -1,14 +1,13 @@
 -- The test of one number or one row, from the words that the code read.
 use Prim.Native.Nat.{ℕ, _+_, _-_, _*_, _≤_, _<_}
-use mathlib.Core.Path.{_≡_, refl, sym, ap, _∙_}
+use mathlib.Core.Path.{_≡_}
 use mathlib.Core.Bool.{Bool, true, false}
 use mathlib.Core.List.{List}
-use native.Mathlib.Omega.{arith}
 use lib.Dec.{ltb, leb, eqb}
 use borrow.Author.Tests.{lt-ltb, le-ltb, le-leb, lt-leb, eq-eqb, ne-eqb}
-use Rattle.repository.specs.Sections.{size, sec, routes}
+use Rattle.repository.specs.Sections.{sec, routes}
 use Rattle.repository.specs.NetOf.{count}
-use Rattle.repository.specs.Listed.{indexed, call, calls, later, running, passes, servedMark}
+use Rattle.repository.specs.Listed.{indexed, call, calls, later, passes, servedMark}
 
 module _ (w : List ℕ) (k n i : ℕ) {r : ℕ} (e : r ≡ sec w k i) where
   pub index-right : r < n → indexed w k n i ≡ true
@@ -39,12 +38,14 @@ module _ (w : List ℕ) (s j : ℕ) {r m : ℕ} (er : r ≡ sec w 5 (j * 3)) (em
         pub call-first-other : (u ≡ s → ⊥) → false ≡ call w s j
         unfolding call
         call-first-other h =
-            rw (← er, ← em, lt-ltb r m hr, ← en, ← ef, lt-ltb first n hf, ← el, lt-ltb last n hl, ← eu, ne-eqb u s h)
+            rw (← er, ← em, lt-ltb r m hr, ← en, ← ef, lt-ltb first n hf, ← el, lt-ltb last n hl)
+            (rw (← eu, ne-eqb u s h))
 
         pub call-last-is : {v : ℕ} → u ≡ s → v ≡ sec w 12 (sec w 11 r + last) → eqb v s ≡ call w s j
         unfolding call
         call-last-is h ev =
-            rw (← er, ← em, lt-ltb r m hr, ← en, ← ef, lt-ltb first n hf, ← el, lt-ltb last n hl, ← eu, eq-eqb u s h, ← ev)
+            rw (← er, ← em, lt-ltb r m hr, ← en, ← ef, lt-ltb first n hf, ← el, lt-ltb last n hl)
+            (rw (← eu, eq-eqb u s h, ← ev))
 
 pub later-is : (w : List ℕ) (j : ℕ) {x y : ℕ} → x ≡ sec w 5 ((j - 1) * 3) → y ≡ sec w 5 (j * 3) → ltb x y ≡ later w j
 unfolding later

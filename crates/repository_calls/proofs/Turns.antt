@@ -1,11 +1,11 @@
--- The turns of a check loop, as its code knows them: the test of one number is a call's answer, and the end a count that was read.
+-- The turns of a check loop, as its code knows them: one number's test is a call's answer, and the end a count read.
 use Prim.Native.Nat.{ℕ, _+_, _≤_, _<_}
 use mathlib.Core.Path.{_≡_, sym, _∙_}
 use mathlib.Core.Bool.{Bool, true, false, not}
 use mathlib.Core.List.{List}
 use native.Mathlib.Omega.{arith}
 use borrow.Author.Tests.{not-true, not-false}
-use Rattle.base.specs.All.{all, So, so-start, so-on, so-fails, so-passes}
+use Rattle.base.specs.All.{all, So, so-on, so-fails, so-passes}
 use Rattle.repository.specs.Sections.{sec}
 use Rattle.repository.specs.Listed.{under}
 
@@ -27,7 +27,8 @@ module _ {f : ℕ → Bool} {a b c i : ℕ} (h : So f a b i) (e : c ≡ b) where
     turn-off g t = fault g (sym is ∙ not-true ok t)
 
 -- an outer loop, whose test of i is that of the rows a, .., e - 1, and the loop of these
-module _ {g f : ℕ → Bool} {n c i a e j : ℕ} (h : So g 0 n i) (q : c ≡ n) (l : i < c) (k : So f a e j) (whole : g i ≡ all f a e) where
+module _ {g f : ℕ → Bool} {n c i a e j : ℕ} (h : So g 0 n i) (q : c ≡ n) (l : i < c) (k : So f a e j)
+    (whole : g i ≡ all f a e) where
   pub rest-pass : e ≤ j → So g 0 n (i + 1)
   rest-pass r = turn h q l (whole ∙ so-passes k r)
 

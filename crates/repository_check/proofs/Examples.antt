@@ -8,11 +8,11 @@ use Rattle.base.specs.All.{every, all}
 use Rattle.repository.specs.Sections.{size, sec}
 use Rattle.repository.specs.NetOf.{count, netOf}
 use Rattle.repository.specs.Laid.{headed, sized, limited, starting, started, positioned, laid}
-use Rattle.repository.specs.Listed.{fails, some, among, fresh, distinct, indexed, inRange, under, inPlace, stopList, station, stations}
-use Rattle.repository.specs.Listed.{child, ofStation, childrenName, childrenAll, children, routeStops, routeTrips, timeEach, tripTimes}
-use Rattle.repository.specs.Listed.{call, calls, later, ascending, called, calledAlong, callsHold, callsRise, callsAll, stopRoutes}
-use Rattle.repository.specs.Listed.{running, passes, servedMark, served, transfer, transfers, walks, areaOnce, areasOnce, areasListed}
-use Rattle.repository.specs.Listed.{framed, listed}
+use Rattle.repository.specs.Listed.{fails, some, among, fresh, distinct, indexed, inRange, under, inPlace, stopList}
+use Rattle.repository.specs.Listed.{station, stations, child, ofStation, childrenName, childrenAll, children, routeStops}
+use Rattle.repository.specs.Listed.{routeTrips, timeEach, tripTimes, call, calls, later, ascending, called, calledAlong}
+use Rattle.repository.specs.Listed.{callsHold, callsRise, callsAll, stopRoutes, running, passes, servedMark, served}
+use Rattle.repository.specs.Listed.{transfer, transfers, walks, areaOnce, areasOnce, areasListed, framed, listed}
 use Rattle.repository.specs.Checked.{walk, timely, timed, behind, ordered, measured, checkOf}
 use Rattle.repository.specs.Accepted.{Accepted}
 use Rattle.repository_check.proofs.Whole.{accepted-is}
@@ -38,8 +38,8 @@ N =
     ∷ 350 ∷ 350 ∷ 450 ∷ 450 ∷ 650 ∷ 650 ∷ 750 ∷ 750
     ∷ 0 ∷ []
 
--- the empty words; route 1 ends short; the transfer goes to no stop; trip 0 arrives at moment 0; trip 0 departs last after trip 1;
--- a span of 86,401; a distance that is NaN
+-- N; no words; the route stops end short; the transfer goes to no stop; trip 0 arrives at moment 0; trip 0 departs from
+-- its last stop after trip 1; a span of 86,401; a distance that is NaN
 numbers :
     checkOf N ∷ checkOf [] ∷ checkOf (set N 80 4) ∷ checkOf (set N 69 5) ∷ checkOf (set N 98 0) ∷ checkOf (set N 103 601)
     ∷ checkOf (set N 70 86401) ∷ checkOf (set N 71 2143289344) ∷ []

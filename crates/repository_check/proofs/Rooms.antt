@@ -1,13 +1,13 @@
 -- Every index that the checks compute on laid and listed tables is in range.
-use Prim.Native.Nat.{ℕ, zero, suc, _+_, _-_, _*_, _/_, _^_, _≤_, _<_}
-use mathlib.Core.Path.{_≡_, sym, ap, _∙_}
+use Prim.Native.Nat.{ℕ, zero, suc, _+_, _-_, _*_, _^_, _≤_, _<_}
+use mathlib.Core.Path.{_≡_}
 use mathlib.Core.List.{List}
 use native.Mathlib.Omega.{arith}
 use lib.ListN.{length}
 use Rattle.repository.specs.Sections.{start, size, sec, rows}
 use Rattle.repository.specs.NetOf.{count, netOf}
 use Rattle.repository.specs.Laid.{Starts, Laid}
-use Rattle.repository.specs.Accepted.{Under, Listed}
+use Rattle.repository.specs.Accepted.{Under}
 use Rattle.repository_shape.proofs.Rooms.{within, room}
 use Rattle.repository_shape.proofs.Passed.{laid-headed}
 use Rattle.repository_check.specs.Stands.{Stands}

@@ -1,7 +1,7 @@
 -- What the tests for numbers 3, 4 and 5 show, and that tables without those numbers pass them.
 use Prim.Native.Nat.{ℕ, zero, suc, _+_, _-_, _*_, _≤_, _<_}
 use mathlib.Core.Path.{_≡_, refl, sym, _∙_}
-use mathlib.Core.Bool.{Bool, true, false, _&&_, _||_, or-true}
+use mathlib.Core.Bool.{Bool, true, _||_, or-true}
 use mathlib.Core.Logic.{_⊎_, inl, inr}
 use mathlib.Core.List.{List, [], _∷_}
 use native.Mathlib.Omega.{arith}
@@ -72,7 +72,8 @@ module _ (n : Net) where
   timed-so h = walk-so n 0 (timely n) keeps
     where
       next : (r p i : ℕ) → r < n .routes → i < n .trips r
-          → leb (n .positions r) (p + 1) || leb (n .departure (n .tripAt r i) p) (n .arrival (n .tripAt r i) (p + 1)) ≡ true
+          → leb (n .positions r) (p + 1) || leb (n .departure (n .tripAt r i) p) (n .arrival (n .tripAt r i) (p + 1))
+          ≡ true
       next r p i gr gi =
           split (leb (n .positions r) (p + 1)) (λ t. rw t)
           (λ t.
@@ -97,16 +98,16 @@ module _ (n : Net) where
         let v = n .tripAt r (suc i) in
         leb (n .arrival u p) (n .arrival v p) ∷ leb (n .departure u p) (n .departure v p) ∷ []
 
-    behind-is : behind n r p (suc i) ≡ joined true behindTests
+    behind-joined : behind n r p (suc i) ≡ joined true behindTests
     unfolding behind
-    behind-is = let e : suc i - 1 ≡ i = omega arith in rw (behind, e)
+    behind-joined = let e : suc i - 1 ≡ i = omega arith in rw (behind, e)
 
   ordered-at : ordered n ≡ true → (r i p : ℕ) → r < n .routes → suc i < n .trips r → p < n .positions r → (k : ℕ)
       → getD (behindTests r p i) k true ≡ true
   unfolding ordered
   ordered-at e r i p gr gi gp =
       let t = walk-at n 1 (behind n) e r p (suc i) gr gp (omega arith) gi in
-      joined-at true (behindTests r p i) (sym (behind-is r p i) ∙ t)
+      joined-at true (behindTests r p i) (sym (behind-joined r p i) ∙ t)
 
   pub ordered-shown : ordered n ≡ true → Ordered n
   ordered-shown e = record {
@@ -124,7 +125,7 @@ module _ (n : Net) where
           let u = n .tripAt r i in
           let v = n .tripAt r (suc i) in
           rw (
-            behind-is r p i,
+            behind-joined r p i,
             le-leb (n .arrival u p) (n .arrival v p) (h .arrivals r i p gr gi gp),
             le-leb (n .departure u p) (n .departure v p) (h .departures r i p gr gi gp),
           )

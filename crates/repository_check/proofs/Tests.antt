@@ -1,7 +1,7 @@
 -- What the answers of the tests for numbers 3 and 4 come to.
 use Prim.Native.Nat.{ℕ, zero, suc, _+_, _-_, _*_, _≤_, _<_}
-use mathlib.Core.Path.{_≡_, refl, sym, ap, _∙_}
-use mathlib.Core.Bool.{Bool, true, false, _&&_, _||_, and-true, true≢false}
+use mathlib.Core.Path.{_≡_, refl, sym, _∙_}
+use mathlib.Core.Bool.{Bool, true, false, _&&_, and-true, true≢false}
 use mathlib.Core.List.{List}
 use native.Mathlib.Omega.{arith}
 use native.Mathlib.Numerals.{add-one}
@@ -64,11 +64,12 @@ module _ (n : Net) (r p : ℕ) where
       let d = n .departure v p in
       rw (le-leb a a (omega arith), le-leb d d (omega arith))
 
-  pub last-on : {i u v : ℕ} → u ≡ n .arrival (n .tripAt r i) p → v ≡ n .departure (n .tripAt r i) p → Last n r p (i + 1) u v
+  pub last-on : {i u v : ℕ} → u ≡ n .arrival (n .tripAt r i) p → v ≡ n .departure (n .tripAt r i) p
+      → Last n r p (i + 1) u v
   last-on {i} eu ev = rw (add-one i) (record { arrival = eu; departure = ev })
 
-  behind-cases : (i a d u v : ℕ) → Last n r p i a d → u ≡ n .arrival (n .tripAt r i) p → v ≡ n .departure (n .tripAt r i) p
-      → leb a u && leb d v ≡ behind n r p i
+  behind-cases : (i a d u v : ℕ) → Last n r p i a d → u ≡ n .arrival (n .tripAt r i) p
+      → v ≡ n .departure (n .tripAt r i) p → leb a u && leb d v ≡ behind n r p i
   unfolding behind
   behind-cases zero a d u v h eu ev =
       let ea : a ≡ 0 = h .arrival in
@@ -78,8 +79,8 @@ module _ (n : Net) (r p : ℕ) where
       let e : suc i - 1 ≡ i = omega arith in
       rw (behind, e, h .arrival, h .departure, eu, ev)
 
-  pub behind-is : {i a d u v : ℕ} → Last n r p i a d → u ≡ n .arrival (n .tripAt r i) p → v ≡ n .departure (n .tripAt r i) p
-      → leb a u && leb d v ≡ behind n r p i
+  pub behind-is : {i a d u v : ℕ} → Last n r p i a d → u ≡ n .arrival (n .tripAt r i) p
+      → v ≡ n .departure (n .tripAt r i) p → leb a u && leb d v ≡ behind n r p i
   behind-is {i} {a} {d} {u} {v} h eu ev = behind-cases i a d u v h eu ev
 
 -- the walk may begin with the first trip, behind which there is none
@@ -90,7 +91,8 @@ from-first n false e =
     (λ t. absurd (true≢false (sym (walk-so n 0 (behind n) (each t)) ∙ e)))
     (λ t. t)
   where
-    each : walk n 1 (behind n) ≡ true → (r p i : ℕ) → r < n .routes → p < n .positions r → 0 ≤ i → i < n .trips r → behind n r p i ≡ true
+    each : walk n 1 (behind n) ≡ true → (r p i : ℕ) → r < n .routes → p < n .positions r → 0 ≤ i → i < n .trips r
+        → behind n r p i ≡ true
     each t r p zero gr gp l gi = behind-first n r p
     each t r p (suc i) gr gp l gi = walk-at n 1 (behind n) t r p (suc i) gr gp (omega arith) gi
 

@@ -1,20 +1,20 @@
--- The whole check: what its number is where each test stops it, and that the number says of the tables what document 01 has it say.
+-- The whole check: its number where each test stops it, and that the number says what document 01 has it say.
 use Prim.Native.Nat.{ℕ, zero, suc}
 use mathlib.Core.Path.{_≡_, refl, sym, subst, _∙_}
 use mathlib.Core.Bool.{Bool, true, false, true≢false}
 use mathlib.Core.Logic.{_↔_}
 use mathlib.Core.List.{List}
-use native.Mathlib.Omega.{arith}
 use Rattle.base.specs.Choice.{split}
 use Rattle.repository.specs.NetOf.{netOf}
 use Rattle.repository.specs.Laid.{laid, Laid}
 use Rattle.repository.specs.Listed.{listed}
 use Rattle.repository.specs.Checked.{timed, ordered, measured, checkOf}
-use Rattle.repository.specs.Accepted.{Listed, Timed, Ordered, Measured, Accepted}
+use Rattle.repository.specs.Accepted.{Listed, Accepted}
 use Rattle.repository_shape.proofs.Shown.{laid-shown}
 use Rattle.repository_shape.proofs.Passed.{laid-so}
 use Rattle.repository_check.specs.Says.{Says}
-use Rattle.repository_check.proofs.Shown.{timed-shown, timed-so, ordered-shown, ordered-so, measured-shown, measured-so}
+use Rattle.repository_check.proofs.Shown.{timed-shown, timed-so, ordered-shown, ordered-so}
+use Rattle.repository_check.proofs.Shown.{measured-shown, measured-so}
 use Rattle.repository_listing.proofs.Shown.{listed-shown}
 use Rattle.repository_listing.proofs.Kept.{listed-so}
 
@@ -96,7 +96,8 @@ given zero w h =
 given (suc zero) w h = number-1 w refl (not-passed (laid w) (λ t. h (laid-shown t)))
 given (suc (suc zero)) w (l, h) = number-2 w refl (laid-so l) refl (not-passed (listed w) (λ t. h (listed-shown l t)))
 given (suc (suc (suc zero))) w (l, k, h) =
-    number-3 w refl (laid-so l) refl (listed-so l k) refl (not-passed (timed (netOf w)) (λ t. h (timed-shown (netOf w) t)))
+    number-3 w refl (laid-so l) refl (listed-so l k) refl
+    (not-passed (timed (netOf w)) (λ t. h (timed-shown (netOf w) t)))
 given (suc (suc (suc (suc zero)))) w (l, k, t, h) =
     number-4 w refl (laid-so l) refl (listed-so l k) refl (timed-so (netOf w) t) refl
     (not-passed (ordered (netOf w)) (λ u. h (ordered-shown (netOf w) u)))

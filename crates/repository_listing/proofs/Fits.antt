@@ -1,21 +1,20 @@
--- What a call asks of a list whose indices an earlier part of the check found in range: entries of other lists, and marks for its words.
+-- What a list whose indices were found in range gives to the parts after it: entries of other lists, and a mark each.
 use Prim.Native.Nat.{ℕ, _+_, _-_, _*_, _≤_, _<_}
 use mathlib.Core.Path.{_≡_, sym, _∙_}
 use mathlib.Core.Bool.{Bool, true, false, not}
 use mathlib.Core.List.{List}
 use native.Mathlib.Omega.{arith}
-use lib.Dec.{ltb, eqb}
-use lib.ListN.{length, replicate, length-replicate}
-use borrow.Author.Tests.{ltb-true, not-false}
+use lib.ListN.{replicate, length-replicate}
+use borrow.Author.Tests.{not-false}
 use Rattle.base.specs.Choice.{and-left}
-use Rattle.base.specs.All.{all-at}
 use Rattle.marks.proofs.Laws.{clear-none}
-use Rattle.repository.specs.Sections.{size, sec, stops, routes, trips, areas}
+use Rattle.repository.specs.Sections.{size, sec, stops, trips, areas}
 use Rattle.repository.specs.Laid.{Laid}
-use Rattle.repository.specs.Listed.{indexed, inRange, under, child, childrenName, routeTrips, distinct}
+use Rattle.repository.specs.Listed.{inRange, under, child, childrenName, routeTrips, distinct}
 use Rattle.repository_calls.specs.Entry.{Entry}
-use Rattle.repository_calls.proofs.Entries.{index-below}
+use Rattle.repository_calls.proofs.Facts.{under-shown, index-shown}
 use Rattle.repository_listing.specs.Fitting.{Fitting, Unmarked}
+use Rattle.repository_listing.proofs.Rows.{child-shown}
 use Rattle.repository_calls.proofs.Rooms.{row-of, end-in}
 
 pub unmarked : (n : ℕ) → Unmarked (replicate n 0)
@@ -26,39 +25,39 @@ module _ {w : List ℕ} (l : Laid w) where
   module _ {v i : ℕ} (e : v ≡ sec w 14 i) (h : i < size w 14) where
     trip-in : routeTrips w ≡ true → v < trips w
     unfolding routeTrips
-    trip-in t = rw e (index-below w 14 (trips w) i (and-left (inRange w 14 (trips w)) (distinct w 14 0 (size w 14)) t) h)
+    trip-in t = rw e (index-shown w 14 (trips w) (and-left (inRange w 14 (trips w)) (distinct w 14 0 (size w 14)) t) i h)
 
     pub trip-entry : routeTrips w ≡ true → Entry w 15 v
-    trip-entry t = record { section = omega arith; word = omega (arith, trip-in t); rise = l .time-starts .rise v (trip-in t) }
+    trip-entry t =
+        record { section = omega arith; word = omega (arith, trip-in t); rise = l .time-starts .rise v (trip-in t) }
 
   -- ---- marks
   pub children-fit : {n : ℕ} {ok : Bool} → ok ≡ childrenName w → not ok ≡ false → n ≡ size w 3 → Fitting w 3 0 n 64
-  unfolding childrenName under child
+  unfolding childrenName
   children-fit {n} {ok} is t e = record { section = omega arith; order = omega arith; within = omega arith; marks = fit }
     where
       fit : (i : ℕ) → 0 ≤ i → i < n → sec w 3 i < 64 * 64
       fit i g h =
           let r = row-of (l .child-starts) i (omega arith) in
-          let u = r .under in
-          let own = all-at (under w 2 (child w)) 0 (stops w) (sym is ∙ not-false ok t) (r .at) (omega arith) (r .below) in
-          let row = all-at (child w (r .at)) (sec w 2 (r .at)) (sec w 2 (r .at + 1)) own i (u .from) (u .to) in
-          omega (arith, ltb-true (sec w 3 i) (stops w) (and-left (ltb (sec w 3 i) (stops w)) (eqb (sec w 1 (sec w 3 i)) (r .at)) row))
+          let own = under-shown w 2 (stops w) (child w) (sym is ∙ not-false ok t) (r .at) i (r .below) (r .under) in
+          omega (arith, child-shown w (r .at) i own .0)
 
-  pub trips-fit : {n m : ℕ} {ok : Bool} → ok ≡ inRange w 14 n → n ≡ trips w → not ok ≡ false → m ≡ size w 14 → Fitting w 14 0 m 256
+  pub trips-fit : {n m : ℕ} {ok : Bool} → ok ≡ inRange w 14 n → n ≡ trips w → not ok ≡ false → m ≡ size w 14
+      → Fitting w 14 0 m 256
   trips-fit {n} {m} {ok} is f t e = record {
     section = omega arith;
     order = omega arith;
     within = omega arith;
-    marks = λ i g h. omega (arith, index-below w 14 n i (sym is ∙ not-false ok t) (omega arith));
+    marks = λ i g h. omega (arith, index-shown w 14 n (sym is ∙ not-false ok t) i (omega arith));
   }
 
-  pub area-fit : (a : ℕ) {from to : ℕ} → inRange w 18 (stops w) ≡ true → a < areas w → from ≡ sec w 17 a → to ≡ sec w 17 (a + 1)
-      → Fitting w 18 from to 64
+  pub area-fit : (a : ℕ) {from to : ℕ} → inRange w 18 (stops w) ≡ true → a < areas w → from ≡ sec w 17 a
+      → to ≡ sec w 17 (a + 1) → Fitting w 18 from to 64
   area-fit a {from} {to} t h e f = record {
     section = omega arith;
     order = omega (arith, l .area-starts .rise a h);
     within = end;
-    marks = λ i g k. omega (arith, index-below w 18 (stops w) i t (omega (arith, end)));
+    marks = λ i g k. omega (arith, index-shown w 18 (stops w) t i (omega (arith, end)));
   }
     where
       end : to ≤ size w 18

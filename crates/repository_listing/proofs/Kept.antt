@@ -1,23 +1,27 @@
 -- The facts of `Listed` make the test of number 2 pass.
-use Prim.Native.Nat.{ℕ, _+_, _-_, _*_, _≤_, _<_}
-use mathlib.Core.Path.{_≡_, refl, sym, _∙_}
-use mathlib.Core.Bool.{Bool, true, false, _&&_, _||_}
+use Prim.Native.Nat.{ℕ, _+_, _-_, _*_}
+use mathlib.Core.Path.{_≡_}
+use mathlib.Core.Bool.{true}
 use mathlib.Core.Logic.{_⊎_, inl, inr, ⊎-elim}
 use mathlib.Core.List.{List}
 use native.Mathlib.Omega.{arith}
-use lib.Dec.{ltb, eqb}
+use lib.Dec.{eqb}
 use borrow.Author.Tests.{lt-ltb, eqb-false, eq-eqb}
 use Rattle.base.specs.Choice.{split}
 use Rattle.model.specs.Moments.{MAX}
 use Rattle.repository.specs.Sections.{size, sec, stops, routes, trips, areas, rows}
 use Rattle.repository.specs.NetOf.{count}
 use Rattle.repository.specs.Laid.{Laid}
-use Rattle.repository.specs.Listed.{among, distinct, inRange, inPlace, stopList, station, stations, child, ofStation, childrenName, childrenAll, children, routeStops, routeTrips, timeEach, tripTimes, call, later, ascending, called, calledAlong, callsHold, callsRise, callsAll, stopRoutes, servedMark, served, transfer, transfers, walk, walks, areaOnce, areasOnce, areasListed, framed, listed}
-use Rattle.repository.specs.Accepted.{Under, Listed}
-use Rattle.repository_calls.proofs.Ranges.{Some, all-so, some-so}
-use Rattle.repository_listing.proofs.Parts.{Six, six-so}
-use Rattle.repository_listing.proofs.Facts.{each-so, under-so, distinct-so, index-so, or-so}
-use Rattle.repository_listing.proofs.CallRows.{call-so, called-so, mark-so}
+use Rattle.repository.specs.Listed.{among, inPlace, stopList, station, stations, child, ofStation, childrenName}
+use Rattle.repository.specs.Listed.{childrenAll, children, routeStops, routeTrips, timeEach, tripTimes, call, later}
+use Rattle.repository.specs.Listed.{ascending, called, calledAlong, callsHold, callsRise, callsAll, stopRoutes}
+use Rattle.repository.specs.Listed.{servedMark, served, transfer, transfers, walk, walks, areaOnce, areasOnce}
+use Rattle.repository.specs.Listed.{areasListed, framed, listed}
+use Rattle.repository.specs.Accepted.{Listed}
+use Rattle.repository_calls.proofs.Ranges.{all-so, some-so}
+use Rattle.repository_listing.proofs.Parts.{six-so}
+use Rattle.repository_calls.proofs.Facts.{each-so, under-so, distinct-so, index-so, or-so}
+use Rattle.repository_calls.proofs.CallRows.{call-so, called-so, mark-so}
 
 module _ {w : List ℕ} (l : Laid w) (h : Listed w) where
   places : stopList w ≡ true
@@ -28,13 +32,16 @@ module _ {w : List ℕ} (l : Laid w) (h : Listed w) where
   unfolding stations station
   parents =
       each-so (station w) (stops w)
-      (λ s g. or-so _ _ (⊎-elim (λ e. inl (eq-eqb (sec w 1 s) MAX e)) (λ e. inr (lt-ltb (sec w 1 s) (stops w) e)) (h .station-in s g)))
+      (λ s g.
+      or-so _ _
+      (⊎-elim (λ e. inl (eq-eqb (sec w 1 s) MAX e)) (λ e. inr (lt-ltb (sec w 1 s) (stops w) e)) (h .station-in s g)))
 
   named : childrenName w ≡ true
   unfolding childrenName child
   named =
       under-so w 2 (stops w) (child w)
-      (λ p j g u. rw (lt-ltb (sec w 3 j) (stops w) (h .child-in p j g u)) (eq-eqb (sec w 1 (sec w 3 j)) p (h .child-of p j g u)))
+      (λ p j g u.
+      rw (lt-ltb (sec w 3 j) (stops w) (h .child-in p j g u)) (eq-eqb (sec w 1 (sec w 3 j)) p (h .child-of p j g u)))
 
   found : childrenAll w ≡ true
   unfolding childrenAll ofStation among
@@ -126,7 +133,14 @@ module _ {w : List ℕ} (l : Laid w) (h : Listed w) where
       (record {
         first =
             six-so (stopList w) (stations w) (children w) (routeStops w) (routeTrips w) (tripTimes w)
-            (record { first = places; second = parents; third = stations-whole; fourth = stops-in; fifth = trips-whole; sixth = times });
+            (record {
+              first = places;
+              second = parents;
+              third = stations-whole;
+              fourth = stops-in;
+              fifth = trips-whole;
+              sixth = times;
+            });
         second = calls-whole;
         third = marks;
         fourth = transfers-whole;

@@ -3,7 +3,6 @@ pub mod Fits
 pub mod Marking
 pub mod Rows
 pub mod Parts
-pub mod Facts
-pub mod CallRows
 pub mod Shown
 pub mod Kept
+pub mod Examples

@@ -1,7 +1,7 @@
--- Words found distinct by marks: a word that was marked before stands twice; where none was, the marks stand for all of them.
+-- Words found distinct by marks: a word that was marked before stands twice; else the marks stand for all of them.
 use Prim.Native.Nat.{ℕ, _+_, _*_, _≤_, _<_}
-use mathlib.Core.Path.{_≡_, refl, sym, ap, ap₂, _∙_}
-use mathlib.Core.Bool.{Bool, true, false, cond, not, _||_, true≢false}
+use mathlib.Core.Path.{_≡_, sym, ap, _∙_}
+use mathlib.Core.Bool.{Bool, true, false, not, _||_, true≢false}
 use mathlib.Core.List.{List}
 use native.Mathlib.Omega.{arith}
 use lib.Dec.{eqb}
@@ -10,7 +10,6 @@ use lib.ListN.{length}
 use Rattle.base.specs.Choice.{split}
 use Rattle.base.specs.All.{So, so-start, so-on, so-fails, so-passes}
 use Rattle.marks.specs.Marks.{marked, withMark}
-use Rattle.marks.proofs.Laws.{mark-length}
 use Rattle.marks.proofs.Stand.{Stand, stand-more}
 use Rattle.repository.specs.Sections.{size, sec}
 use Rattle.repository.specs.Listed.{among, fresh, distinct}
@@ -40,7 +39,8 @@ module _ {w : List ℕ} {k a b : ℕ} where
     stand = record { agree = λ t h. u .none t h ∙ sym (some-none (λ j. eqb (sec w k j) t) a a (omega arith)) };
   }
 
-  module _ {ws : List ℕ} {i s m : ℕ} (h : Marking w k a b ws i) (l : i < b) (e : s ≡ sec w k i) (f : Fitting w k a b m) (c : length ws ≡ m) where
+  module _ {ws : List ℕ} {i s m : ℕ} (h : Marking w k a b ws i) (l : i < b) (e : s ≡ sec w k i) (f : Fitting w k a b m)
+      (c : length ws ≡ m) where
     pub mark-room : s < 64 * length ws
     mark-room = omega (arith, f .marks i (h .from) l)
 

@@ -6,7 +6,9 @@ use mathlib.Core.List.{List}
 use borrow.Author.Tests.{not-true, not-false}
 use Rattle.base.specs.Choice.{and-left, and-right}
 use Rattle.repository.specs.Sections.{size, sec, stops, trips}
-use Rattle.repository.specs.Listed.{inRange, distinct, childrenName, childrenAll, children, routeStops, routeTrips, tripTimes, stopList, stations, framed, callsHold, callsRise, callsAll, stopRoutes, served, transfers, walks, areaOnce, areasOnce, areasListed, listed}
+use Rattle.repository.specs.Listed.{inRange, distinct, childrenName, childrenAll, children, routeStops, routeTrips}
+use Rattle.repository.specs.Listed.{tripTimes, stopList, stations, framed, callsHold, callsRise, callsAll}
+use Rattle.repository.specs.Listed.{stopRoutes, served, transfers, walks, areaOnce, areasOnce, areasListed, listed}
 
 module _ (w : List ℕ) {a : Bool} (ea : a ≡ childrenName w) where
   pub children-misnamed : not a ≡ true → false ≡ children w
@@ -47,8 +49,8 @@ module _ (w : List ℕ) {n : ℕ} {a : Bool} (ea : a ≡ inRange w 18 n) (en : n
   unfolding areasListed
   areas-rest t eb = rw (← en, ← ea, not-false a t) eb
 
-pub area-rest : (w : List ℕ) (a : ℕ) {from to : ℕ} {b : Bool} → b ≡ distinct w 18 from to → from ≡ sec w 17 a → to ≡ sec w 17 (a + 1)
-    → b ≡ areaOnce w a
+pub area-rest : (w : List ℕ) (a : ℕ) {from to : ℕ} {b : Bool} → b ≡ distinct w 18 from to → from ≡ sec w 17 a
+    → to ≡ sec w 17 (a + 1) → b ≡ areaOnce w a
 unfolding areaOnce
 area-rest w a eb ef et = rw (← ef, ← et) eb
 
@@ -76,11 +78,15 @@ module _ (w : List ℕ) {a : Bool} (ea : a ≡ stopList w) where
         module _ (td : not d ≡ false) {e : Bool} (ee : e ≡ routeTrips w) where
           pub no-route-trip : not e ≡ true → false ≡ framed w
           unfolding framed
-          no-route-trip t = rw (← ea, not-false a ta, ← eb, not-false b tb, ← ec, not-false c tc, ← ed, not-false d td, ← ee, not-true e t)
+          no-route-trip t =
+              rw (← ea, not-false a ta, ← eb, not-false b tb, ← ec, not-false c tc)
+              (rw (← ed, not-false d td, ← ee, not-true e t))
 
           pub framed-whole : {f : Bool} → not e ≡ false → f ≡ tripTimes w → f ≡ framed w
           unfolding framed
-          framed-whole te ef = rw (← ea, not-false a ta, ← eb, not-false b tb, ← ec, not-false c tc, ← ed, not-false d td, ← ee, not-false e te) ef
+          framed-whole te ef =
+              rw (← ea, not-false a ta, ← eb, not-false b tb, ← ec, not-false c tc)
+              (rw (← ed, not-false d td, ← ee, not-false e te) ef)
 
 module _ (w : List ℕ) {a : Bool} (ea : a ≡ framed w) where
   pub no-frame : not a ≡ true → false ≡ listed w
@@ -105,11 +111,15 @@ module _ (w : List ℕ) {a : Bool} (ea : a ≡ framed w) where
         module _ (td : not d ≡ false) {e : Bool} (ee : e ≡ walks w) where
           pub no-walk : not e ≡ true → false ≡ listed w
           unfolding listed
-          no-walk t = rw (← ea, not-false a ta, ← eb, not-false b tb, ← ec, not-false c tc, ← ed, not-false d td, ← ee, not-true e t)
+          no-walk t =
+              rw (← ea, not-false a ta, ← eb, not-false b tb, ← ec, not-false c tc)
+              (rw (← ed, not-false d td, ← ee, not-true e t))
 
           pub listed-whole : {f : Bool} → not e ≡ false → f ≡ areasListed w → f ≡ listed w
           unfolding listed
-          listed-whole te ef = rw (← ea, not-false a ta, ← eb, not-false b tb, ← ec, not-false c tc, ← ed, not-false d td, ← ee, not-false e te) ef
+          listed-whole te ef =
+              rw (← ea, not-false a ta, ← eb, not-false b tb, ← ec, not-false c tc)
+              (rw (← ed, not-false d td, ← ee, not-false e te) ef)
 
 -- ---- six parts that pass together pass each
 pub record Six (a b c d e f : Bool) : Type 0 where
@@ -139,7 +149,8 @@ module _ (a b c d e f : Bool) where
   pub six-so : Six a b c d e f → a && b && c && d && e && f ≡ true
   six-so h = rw (h .first, h .second, h .third, h .fourth, h .fifth) (h .sixth)
 
-pub framed-parts : (w : List ℕ) → framed w ≡ true → Six (stopList w) (stations w) (children w) (routeStops w) (routeTrips w) (tripTimes w)
+pub framed-parts : (w : List ℕ) → framed w ≡ true
+    → Six (stopList w) (stations w) (children w) (routeStops w) (routeTrips w) (tripTimes w)
 unfolding framed
 framed-parts w = six-shown (stopList w) (stations w) (children w) (routeStops w) (routeTrips w) (tripTimes w)
 

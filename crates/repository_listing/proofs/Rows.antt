@@ -1,12 +1,13 @@
 -- The test of one number or one row, from the words that the code read.
 use Prim.Native.Nat.{ℕ, _+_, _-_, _*_, _≤_, _<_}
-use mathlib.Core.Path.{_≡_, refl, sym, ap, _∙_}
+use mathlib.Core.Path.{_≡_, sym, _∙_}
 use mathlib.Core.Bool.{Bool, true, false}
 use mathlib.Core.List.{List}
 use native.Mathlib.Omega.{arith}
 use lib.Dec.{ltb, eqb}
 use lib.ListN.{length}
-use borrow.Author.Tests.{lt-ltb, le-ltb, eq-eqb, ne-eqb}
+use borrow.Author.Tests.{ltb-true, lt-ltb, le-ltb, eqb-true, eq-eqb, ne-eqb}
+use Rattle.base.specs.Choice.{and-left, and-right}
 use Rattle.model.specs.Moments.{MAX}
 use Rattle.repository.specs.Sections.{size, sec, stops}
 use Rattle.repository.specs.NetOf.{count}
@@ -32,6 +33,13 @@ module _ (w : List ℕ) (s : ℕ) {p : ℕ} (e : p ≡ sec w 1 s) where
   unfolding station
   station-is h g = rw (← e, ne-eqb p MAX h, g)
 
+pub child-shown : (w : List ℕ) (p j : ℕ) → child w p j ≡ true → (sec w 3 j < stops w) × (sec w 1 (sec w 3 j) ≡ p)
+unfolding child
+child-shown w p j e =
+    let a = ltb (sec w 3 j) (stops w) in
+    let b = eqb (sec w 1 (sec w 3 j)) p in
+    (ltb-true _ _ (and-left a b e), eqb-true _ _ (and-right a b e))
+
 module _ (w : List ℕ) (p j : ℕ) {s n : ℕ} (e : s ≡ sec w 3 j) (f : n ≡ size w 0) where
   pub child-names : {q : ℕ} → s < n → q ≡ sec w 1 s → eqb q p ≡ child w p j
   unfolding child
@@ -46,12 +54,13 @@ module _ (w : List ℕ) (s : ℕ) {p : ℕ} (e : p ≡ sec w 1 s) where
   unfolding ofStation
   no-station h = rw (← e, h)
 
-  pub child-marked : {ws : List ℕ} {ok : Bool} → (p ≡ MAX → ⊥) → Stand ws (among w 3 0 (size w 3)) → stops w ≤ 64 * length ws
-      → s < stops w → ok ≡ marked ws s → ok ≡ ofStation w s
+  pub child-marked : {ws : List ℕ} {ok : Bool} → (p ≡ MAX → ⊥) → Stand ws (among w 3 0 (size w 3))
+      → stops w ≤ 64 * length ws → s < stops w → ok ≡ marked ws s → ok ≡ ofStation w s
   unfolding ofStation
   child-marked h m l g is = is ∙ m .agree s (omega arith) ∙ rw (← e, ne-eqb p MAX h)
 
-pub times-each : (w : List ℕ) (r i : ℕ) {v m n : ℕ} → v ≡ sec w 14 i → m ≡ count w 15 v → n ≡ count w 11 r → eqb m n ≡ timeEach w r i
+pub times-each : (w : List ℕ) (r i : ℕ) {v m n : ℕ} → v ≡ sec w 14 i → m ≡ count w 15 v → n ≡ count w 11 r
+    → eqb m n ≡ timeEach w r i
 unfolding timeEach
 times-each w r i e f g = rw (← e, f, g)
 

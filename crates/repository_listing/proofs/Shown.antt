@@ -1,25 +1,29 @@
--- Tables pass the test of number 2 exactly where the facts of `Listed` hold.
-use Prim.Native.Nat.{ℕ, _+_, _-_, _*_, _≤_, _<_}
-use mathlib.Core.Path.{_≡_, refl, sym, _∙_}
-use mathlib.Core.Bool.{Bool, true, false, _&&_, _||_, true≢false}
+-- Tables that pass the test of number 2 have the facts of `Listed`.
+use Prim.Native.Nat.{ℕ, _+_, _-_, _*_, _<_}
+use mathlib.Core.Path.{_≡_}
+use mathlib.Core.Bool.{true, _&&_}
 use mathlib.Core.Logic.{_⊎_, inl, inr, ⊎-elim, _≢_}
 use mathlib.Core.List.{List}
 use native.Mathlib.Omega.{arith}
-use lib.Dec.{ltb, leb, eqb}
-use borrow.Author.Tests.{lt-ltb, ltb-true, eqb-true, eqb-false, eq-eqb}
-use Rattle.base.specs.Choice.{split, and-left, and-right}
-use Rattle.base.specs.All.{all, all-at}
+use lib.Dec.{ltb, eqb}
+use borrow.Author.Tests.{ltb-true, eqb-true}
+use Rattle.base.specs.Choice.{and-left, and-right}
+use Rattle.base.specs.All.{all-at}
 use Rattle.model.specs.Moments.{MAX}
 use Rattle.repository.specs.Sections.{size, sec, stops, routes, trips, areas, rows}
 use Rattle.repository.specs.NetOf.{count}
 use Rattle.repository.specs.Laid.{Laid}
-use Rattle.repository.specs.Listed.{among, distinct, inRange, inPlace, stopList, station, stations, child, ofStation, childrenName, childrenAll, children, routeStops, routeTrips, timeEach, tripTimes, call, later, ascending, called, calledAlong, callsHold, callsRise, callsAll, stopRoutes, servedMark, served, transfer, transfers, walk, walks, areaOnce, areasOnce, areasListed, framed, listed, under}
-use Rattle.repository.specs.Accepted.{Under, Called, Passed, Listed}
-use Rattle.repository_calls.proofs.Ranges.{Some, all-so, some-shown, some-so}
-use Rattle.repository_calls.proofs.Entries.{index-below}
-use Rattle.repository_listing.proofs.Parts.{Six, six-shown, six-so, framed-parts}
-use Rattle.repository_listing.proofs.Facts.{each-shown, each-so, under-shown, under-so, distinct-shown, distinct-so, index-so, or-shown, or-so}
-use Rattle.repository_listing.proofs.CallRows.{Call, call-shown, call-so, called-shown, called-so, mark-set, mark-unset, mark-so}
+use Rattle.repository.specs.Listed.{among, distinct, inRange, inPlace, stopList, station, stations, child}
+use Rattle.repository.specs.Listed.{ofStation, childrenName, childrenAll, children, routeStops, routeTrips}
+use Rattle.repository.specs.Listed.{timeEach, tripTimes, call, later, ascending, called, calledAlong, callsHold}
+use Rattle.repository.specs.Listed.{callsRise, callsAll, stopRoutes, servedMark, served, transfer, transfers, walk}
+use Rattle.repository.specs.Listed.{walks, areaOnce, areasOnce, areasListed, framed, listed}
+use Rattle.repository.specs.Accepted.{Under, Called, Listed}
+use Rattle.repository_calls.proofs.Ranges.{some-shown}
+use Rattle.repository_listing.proofs.Rows.{child-shown}
+use Rattle.repository_listing.proofs.Parts.{Six, six-shown, framed-parts}
+use Rattle.repository_calls.proofs.Facts.{index-shown, each-shown, under-shown, distinct-shown, or-shown}
+use Rattle.repository_calls.proofs.CallRows.{Call, call-shown, called-shown, mark-set, mark-unset}
 
 -- ---- from the test to the facts
 module _ {w : List ℕ} (l : Laid w) (passed : listed w ≡ true) where
@@ -45,28 +49,25 @@ module _ {w : List ℕ} (l : Laid w) (passed : listed w ≡ true) where
   unfolding children
   names-and-once = and-left (childrenName w && distinct w 3 0 (size w 3)) (childrenAll w) (frame .third)
 
-  child-row : (p j : ℕ) → p < stops w → Under w 2 p j → child w p j ≡ true
+  child-row : (p j : ℕ) → p < stops w → Under w 2 p j → (sec w 3 j < stops w) × (sec w 1 (sec w 3 j) ≡ p)
   unfolding childrenName
-  child-row = under-shown w 2 (stops w) (child w) (and-left (childrenName w) (distinct w 3 0 (size w 3)) names-and-once)
-
-  child-is : (p j : ℕ) → p < stops w → Under w 2 p j → sec w 3 j < stops w
-  unfolding child
-  child-is p j h u = ltb-true (sec w 3 j) (stops w) (and-left (ltb (sec w 3 j) (stops w)) (eqb (sec w 1 (sec w 3 j)) p) (child-row p j h u))
-
-  child-names : (p j : ℕ) → p < stops w → Under w 2 p j → sec w 1 (sec w 3 j) ≡ p
-  unfolding child
-  child-names p j h u =
-      eqb-true (sec w 1 (sec w 3 j)) p (and-right (ltb (sec w 3 j) (stops w)) (eqb (sec w 1 (sec w 3 j)) p) (child-row p j h u))
+  child-row p j h u =
+      let names = and-left (childrenName w) (distinct w 3 0 (size w 3)) names-and-once in
+      child-shown w p j (under-shown w 2 (stops w) (child w) names p j h u)
 
   child-apart : (i j : ℕ) → i < j → j < size w 3 → sec w 3 i ≢ sec w 3 j
-  child-apart i j = distinct-shown w 3 0 (size w 3) (and-right (childrenName w) (distinct w 3 0 (size w 3)) names-and-once) i j (omega arith)
+  child-apart i j =
+      let once = and-right (childrenName w) (distinct w 3 0 (size w 3)) names-and-once in
+      distinct-shown w 3 0 (size w 3) once i j (omega arith)
 
   child-found : (s : ℕ) → s < stops w → sec w 1 s ≢ MAX → (j : ℕ) × (j < size w 3) × (sec w 3 j ≡ s)
   unfolding children childrenAll ofStation among
   child-found s h n =
       let each = and-right (childrenName w && distinct w 3 0 (size w 3)) (childrenAll w) (frame .third) in
       ⊎-elim (λ e. absurd (n (eqb-true (sec w 1 s) MAX e)))
-      (λ e. let x = some-shown (λ j. eqb (sec w 3 j) s) 0 (size w 3) e in (x .at, x .to, eqb-true (sec w 3 (x .at)) s (x .passes)))
+      (λ e.
+      let x = some-shown (λ j. eqb (sec w 3 j) s) 0 (size w 3) e in
+      (x .at, x .to, eqb-true (sec w 3 (x .at)) s (x .passes)))
       (or-shown _ _ (each-shown (ofStation w) (stops w) each s h))
 
   -- routes
@@ -80,7 +81,7 @@ module _ {w : List ℕ} (l : Laid w) (passed : listed w ≡ true) where
 
   stops-in : (i : ℕ) → i < size w 12 → sec w 12 i < stops w
   unfolding routeStops
-  stops-in i h = index-below w 12 (stops w) i (frame .fourth) h
+  stops-in i h = index-shown w 12 (stops w) (frame .fourth) i h
 
   times : (r i : ℕ) → r < routes w → Under w 13 r i → count w 15 (sec w 14 i) ≡ count w 11 r
   unfolding tripTimes timeEach
@@ -93,7 +94,8 @@ module _ {w : List ℕ} (l : Laid w) (passed : listed w ≡ true) where
 
   call-row : (s j : ℕ) → s < stops w → Under w 4 s j → Call w s j
   unfolding callsHold
-  call-row s j h u = call-shown w s j (under-shown w 4 (stops w) (call w) (and-left (callsHold w) (callsRise w) hold-and-rise) s j h u)
+  call-row s j h u =
+      call-shown w s j (under-shown w 4 (stops w) (call w) (and-left (callsHold w) (callsRise w) hold-and-rise) s j h u)
 
   calls-apart : (s j : ℕ) → s < stops w → sec w 4 s < j → j < sec w 4 (s + 1) → sec w 5 ((j - 1) * 3) < sec w 5 (j * 3)
   unfolding callsRise ascending later
@@ -104,7 +106,8 @@ module _ {w : List ℕ} (l : Laid w) (passed : listed w ≡ true) where
   position : (r p : ℕ) → r < routes w → p < count w 11 r → Called w r p (sec w 12 (sec w 11 r + p))
   unfolding stopRoutes callsAll calledAlong
   position r p h g =
-      let along = each-shown (calledAlong w) (routes w) (and-right (callsHold w && callsRise w) (callsAll w) (whole .second)) r h in
+      let every = and-right (callsHold w && callsRise w) (callsAll w) (whole .second) in
+      let along = each-shown (calledAlong w) (routes w) every r h in
       called-shown w r p (each-shown (called w r) (count w 11 r) along p g)
 
   mark : (s : ℕ) → s < stops w → servedMark w s ≡ true
@@ -126,7 +129,7 @@ module _ {w : List ℕ} (l : Laid w) (passed : listed w ≡ true) where
 
   area-row : (i : ℕ) → i < size w 18 → sec w 18 i < stops w
   unfolding areasListed
-  area-row i h = index-below w 18 (stops w) i (and-left (inRange w 18 (stops w)) (areasOnce w) (whole .sixth)) h
+  area-row i h = index-shown w 18 (stops w) (and-left (inRange w 18 (stops w)) (areasOnce w) (whole .sixth)) i h
 
   area-apart : (a i j : ℕ) → a < areas w → Under w 17 a i → i < j → j < sec w 17 (a + 1) → sec w 18 i ≢ sec w 18 j
   unfolding areasListed areasOnce areaOnce
@@ -138,12 +141,12 @@ module _ {w : List ℕ} (l : Laid w) (passed : listed w ≡ true) where
   listed-shown = record {
     stop-list = places;
     station-in = parents;
-    child-in = child-is;
-    child-of = child-names;
+    child-in = λ p j h u. child-row p j h u .0;
+    child-of = λ p j h u. child-row p j h u .1;
     child-once = child-apart;
     child-all = child-found;
     stop-in = stops-in;
-    trip-in = λ i h. index-below w 14 (trips w) i trips-in h;
+    trip-in = index-shown w 14 (trips w) trips-in;
     trip-once = λ i j. distinct-shown w 14 0 (size w 14) trips-apart i j (omega arith);
     trip-long = times;
     call-route = λ s j h u. call-row s j h u .route;

@@ -2,9 +2,9 @@
 ghost use mathlib.Core.Path.{_≡_};
 ghost use mathlib.Core.Bool.{true};
 ghost use Prim.Native.Nat.{_<_};
-ghost use Rattle.repository.specs.Sections.{size, routes, trips};
+ghost use Rattle.repository.specs.Sections.{size, routes};
 ghost use Rattle.repository.specs.Laid.{Laid};
-ghost use Rattle.repository.specs.Listed.{inRange, routeStops, routeTrips, timeEach, tripTimes};
+ghost use Rattle.repository.specs.Listed.{routeStops, routeTrips, timeEach, tripTimes};
 use crate::once::marked_once;
 use repository_calls::words::count_of;
 use repository_calls::words::entries_of;

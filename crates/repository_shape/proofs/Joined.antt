@@ -1,7 +1,7 @@
 -- Tests joined by `&&`, one after another, as a definition writes them: where all of it passes, each passes.
 use Prim.Native.Nat.{ℕ, zero, suc}
 use mathlib.Core.Path.{_≡_, refl}
-use mathlib.Core.Bool.{Bool, true, false, _&&_}
+use mathlib.Core.Bool.{Bool, true, _&&_}
 use mathlib.Core.List.{List, [], _∷_}
 use lib.ListN.{getD}
 use Rattle.base.specs.Choice.{and-left, and-right}

@@ -1,7 +1,7 @@
 -- What the tests for number 1 show. `Passed` has the other way round: `laid w ≡ true` and `Laid w` say the same.
-use Prim.Native.Nat.{ℕ, _+_, _-_, _%_, _≤_, _<_}
+use Prim.Native.Nat.{ℕ, _+_, _%_, _≤_, _<_}
 use mathlib.Core.Path.{_≡_, sym, _∙_}
-use mathlib.Core.Bool.{Bool, true, _&&_}
+use mathlib.Core.Bool.{Bool, true}
 use mathlib.Core.List.{List, [], _∷_}
 use native.Mathlib.Omega.{arith}
 use lib.Dec.{leb, eqb}
@@ -67,7 +67,8 @@ module _ (w : List ℕ) where
       → getD (leb 1 (count w 11 r) ∷ leb (count w 11 r) 128 ∷ []) i true ≡ true
   unfolding positioned routeFits
   positioned-at e r g =
-      joined-at true (leb 1 (count w 11 r) ∷ leb (count w 11 r) 128 ∷ []) (all-at (routeFits w) 0 (routes w) e r (omega arith) g)
+      let fits = all-at (routeFits w) 0 (routes w) e r (omega arith) g in
+      joined-at true (leb 1 (count w 11 r) ∷ leb (count w 11 r) 128 ∷ []) fits
 
   -- a starts section
   module _ (k n m : ℕ) where

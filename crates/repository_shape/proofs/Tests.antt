@@ -1,6 +1,6 @@
 -- What the answers of the tests come to.
 use Prim.Native.Nat.{ℕ, _+_, _-_, _/_, _≤_, _<_}
-use mathlib.Core.Path.{_≡_, refl, sym, ap, _∙_}
+use mathlib.Core.Path.{_≡_, sym, ap, _∙_}
 use mathlib.Core.Bool.{Bool, true, false, _&&_}
 use mathlib.Core.List.{List}
 use native.Mathlib.Nat.{div-one}
@@ -10,7 +10,7 @@ use borrow.Author.Tests.{le-leb, lt-leb}
 use Rattle.base.specs.All.{every, all}
 use Rattle.repository.specs.Sections.{start, size, sec}
 use Rattle.repository.specs.Laid.{headed, sized, limited, starting, started, positioned, laid}
-use Rattle.repository_shape.specs.Shape.{noFall, routeFits, Headed, Roomy}
+use Rattle.repository_shape.specs.Shape.{noFall, routeFits}
 
 module _ (w : List ℕ) (o i : ℕ) where
   pub no-fall : getD w (o + i) 0 ≤ getD w (o + (i + 1)) 0 → true ≡ noFall w o i
@@ -37,14 +37,16 @@ headed-is w g ea eb et = rw (le-leb 20 (length w) g, ea, eb, et)
 
 -- a starts section
 pub starting-is : (w : List ℕ) (k n wide : ℕ) {a b z o : ℕ} {t : Bool} → a ≡ sec w k 0 → b ≡ sec w k n
-    → z ≡ size w (k + 1) → o ≡ start w k → t ≡ all (noFall w o) 0 n → eqb a 0 && eqb b (z / wide) && t ≡ starting w k n (size w (k + 1) / wide)
+    → z ≡ size w (k + 1) → o ≡ start w k → t ≡ all (noFall w o) 0 n
+    → eqb a 0 && eqb b (z / wide) && t ≡ starting w k n (size w (k + 1) / wide)
 unfolding starting sec noFall
 starting-is w k n wide ea eb ez eo et = rw (ea, eb, ez, et, eo)
 
 pub started-is : (w : List ℕ) {s r t a : ℕ} {b2 b4 b7 b9 b11 b13 b15 b17 : Bool} → s ≡ size w 0
     → r ≡ size w 11 - 1 → t ≡ size w 15 - 1 → a ≡ size w 17 - 1
     → b2 ≡ starting w 2 s (size w 3 / 1) → b4 ≡ starting w 4 s (size w 5 / 3)
-    → b7 ≡ starting w 7 s (size w 8 / 4) → b9 ≡ starting w 9 s (size w 10 / 2) → b11 ≡ starting w 11 r (size w 12 / 1) → b13 ≡ starting w 13 r (size w 14 / 1)
+    → b7 ≡ starting w 7 s (size w 8 / 4) → b9 ≡ starting w 9 s (size w 10 / 2)
+    → b11 ≡ starting w 11 r (size w 12 / 1) → b13 ≡ starting w 13 r (size w 14 / 1)
     → b15 ≡ starting w 15 t (size w 16 / 2) → b17 ≡ starting w 17 a (size w 18 / 1)
     → b2 && b4 && b7 && b9 && b11 && b13 && b15 && b17 ≡ started w
 unfolding started

@@ -5,7 +5,6 @@ use mathlib.Core.Bool.{Bool, _&&_}
 use mathlib.Core.List.{List}
 use lib.Dec.{leb, eqb}
 use lib.ListN.{length, getD}
-use Rattle.base.specs.All.{all}
 use Rattle.repository.specs.Sections.{start, size, stops, routes, trips, areas}
 use Rattle.repository.specs.NetOf.{count}
 
@@ -26,7 +25,7 @@ pub record Roomy (w : List ℕ) : Type 0 where
   pub time-room : trips w < size w 15
   pub area-room : areas w < size w 17
 
--- the n + 1 words from o on never fall
+-- of the words from o on, word i + 1 is not below word i
 unfoldable pub noFall : List ℕ → ℕ → ℕ → Bool
 noFall w o i = leb (getD w (o + i) 0) (getD w (o + (i + 1)) 0)
 

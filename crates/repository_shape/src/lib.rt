@@ -5,7 +5,7 @@ ghost use mathlib.Core.Path.{_≡_};
 ghost use Prim.Native.Nat.{_+_, _-_, _/_, _≤_, _<_};
 ghost use lib.ListN.{length};
 ghost use Rattle.base.specs.All.{all};
-ghost use Rattle.repository.specs.Sections.{start, size};
+ghost use Rattle.repository.specs.Sections.{size};
 ghost use Rattle.repository.specs.NetOf.{count};
 ghost use Rattle.repository.specs.Laid.{headed, sized, limited, starting, started, positioned, laid};
 ghost use Rattle.repository_shape.specs.Shape.{Headed, Roomy, noFall, routeFits, stopSized};

@@ -1,6 +1,7 @@
 -- `framed_ok`: six parts, in their order.
 use borrow.Author.Needs.{needs}
-use Rattle.repository_listing.proofs.Parts.{no-stop-list, no-station, no-child, no-route-stop, no-route-trip, framed-whole, trips-passed}
+use Rattle.repository_listing.proofs.Parts.{no-stop-list, no-station, no-child, no-route-stop, no-route-trip}
+use Rattle.repository_listing.proofs.Parts.{framed-whole, trips-passed}
 use Rattle.repository_listing.proofs.framed_ok.Statement.{statement}
 use Rattle.repository_listing.proofs.framed_ok.Tie as tie
 

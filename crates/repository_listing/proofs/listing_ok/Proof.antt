@@ -1,6 +1,7 @@
 -- `listing_ok`: six parts, in their order.
 use borrow.Author.Needs.{needs}
-use Rattle.repository_listing.proofs.Parts.{no-frame, no-stop-route, no-served-mark, no-transfer, no-walk, listed-whole, stops-passed, calls-passed}
+use Rattle.repository_listing.proofs.Parts.{no-frame, no-stop-route, no-served-mark, no-transfer, no-walk}
+use Rattle.repository_listing.proofs.Parts.{listed-whole, stops-passed, calls-passed}
 use Rattle.repository_listing.proofs.listing_ok.Statement.{statement}
 use Rattle.repository_listing.proofs.listing_ok.Tie as tie
 

@@ -1,7 +1,8 @@
 -- `call_ok`: five tests, in their order.
 use borrow.Author.Needs.{needs}
 use Rattle.repository_calls.proofs.Entries.{route-entry}
-use Rattle.repository_calls.proofs.Rows.{call-out, call-first-out, call-last-out, call-first-other, call-last-is}
+use Rattle.repository_calls.proofs.Rows.{call-out, call-first-out, call-last-out, call-first-other}
+use Rattle.repository_calls.proofs.Rows.{call-last-is}
 use Rattle.repository_calls.proofs.calls.call_ok.Statement.{statement}
 use Rattle.repository_calls.proofs.calls.call_ok.Tie as tie
 

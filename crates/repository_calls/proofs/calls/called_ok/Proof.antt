@@ -1,6 +1,7 @@
 -- `called_ok`: the row found by halving is the only one that can name the route.
 use borrow.Author.Needs.{needs}
-use Rattle.repository_calls.proofs.Halved.{stop-word, stop-entry, calls-room, calls-rising, call-room, called-none, called-there}
+use Rattle.repository_calls.proofs.Halved.{stop-word, stop-entry, calls-room, calls-rising, call-room}
+use Rattle.repository_calls.proofs.Halved.{called-none, called-there}
 use Rattle.repository_calls.proofs.calls.called_ok.Statement.{statement}
 use Rattle.repository_calls.proofs.calls.called_ok.Tie as tie
 

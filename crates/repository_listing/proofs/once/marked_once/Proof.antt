@@ -3,7 +3,8 @@ use borrow.Author.Needs.{needs}
 use Prim.Native.Nat.{_-_}
 use mathlib.Core.Path.{_≡_}
 use lib.ListN.{length}
-use Rattle.repository_listing.proofs.Marking.{Marking, marking-start, mark-room, marked-twice, marking-on, marked-all, marks-stand, marks-none}
+use Rattle.repository_listing.proofs.Marking.{Marking, marking-start, mark-room, marked-twice, marking-on}
+use Rattle.repository_listing.proofs.Marking.{marked-all, marks-stand, marks-none}
 use Rattle.repository_listing.proofs.once.marked_once.Statement.{statement}
 use Rattle.repository_listing.proofs.once.marked_once.Tie as tie
 

@@ -1,18 +1,18 @@
 -- What the tests of lists say of their words and rows, both ways.
-use Prim.Native.Nat.{ℕ, _+_, _-_, _*_, _≤_, _<_}
-use mathlib.Core.Path.{_≡_, refl, sym, _∙_}
+use Prim.Native.Nat.{ℕ, _+_, _-_, _≤_, _<_}
+use mathlib.Core.Path.{_≡_, refl, sym}
 use mathlib.Core.Bool.{Bool, true, false, cond, _||_, or-true, true≢false}
 use mathlib.Core.Logic.{_⊎_, inl, inr, _≢_}
 use mathlib.Core.List.{List}
 use native.Mathlib.Omega.{arith}
-use lib.Dec.{ltb, eqb}
-use borrow.Author.Tests.{lt-ltb, ltb-true, eqb-true, eqb-false, eq-eqb}
+use lib.Dec.{eqb}
+use borrow.Author.Tests.{lt-ltb, ltb-true, eqb-true, eq-eqb}
 use Rattle.base.specs.Choice.{split}
 use Rattle.base.specs.All.{all, all-at}
 use Rattle.repository.specs.Sections.{size, sec}
 use Rattle.repository.specs.Listed.{among, fresh, distinct, indexed, inRange, under}
 use Rattle.repository.specs.Accepted.{Under}
-use Rattle.repository_calls.proofs.Ranges.{Some, all-so, some-shown, some-so}
+use Rattle.repository_calls.proofs.Ranges.{all-so, some-shown, some-so}
 
 -- ---- from 0 on
 pub each-shown : (f : ℕ → Bool) (n : ℕ) → all f 0 n ≡ true → (i : ℕ) → i < n → f i ≡ true
@@ -25,7 +25,8 @@ each-so f n h = all-so f 0 n (λ i from to. h i to)
 module _ (w : List ℕ) (k n : ℕ) (f : ℕ → ℕ → Bool) where
   pub under-shown : all (under w k f) 0 n ≡ true → (i j : ℕ) → i < n → Under w k i j → f i j ≡ true
   unfolding under
-  under-shown e i j h u = all-at (f i) (sec w k i) (sec w k (i + 1)) (each-shown (under w k f) n e i h) j (u .from) (u .to)
+  under-shown e i j h u =
+      all-at (f i) (sec w k i) (sec w k (i + 1)) (each-shown (under w k f) n e i h) j (u .from) (u .to)
 
   pub under-so : ((i j : ℕ) → i < n → Under w k i j → f i j ≡ true) → all (under w k f) 0 n ≡ true
   unfolding under
@@ -57,6 +58,10 @@ module _ (w : List ℕ) (k a b : ℕ) where
           (λ e. rw e)
 
 -- ---- indices
+pub index-shown : (w : List ℕ) (k n : ℕ) → inRange w k n ≡ true → (i : ℕ) → i < size w k → sec w k i < n
+unfolding inRange indexed
+index-shown w k n e i h = ltb-true (sec w k i) n (each-shown (indexed w k n) (size w k) e i h)
+
 pub index-so : (w : List ℕ) (k n : ℕ) → ((i : ℕ) → i < size w k → sec w k i < n) → inRange w k n ≡ true
 unfolding inRange indexed
 index-so w k n h = each-so (indexed w k n) (size w k) (λ i g. lt-ltb (sec w k i) n (h i g))

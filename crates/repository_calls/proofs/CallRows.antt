@@ -1,17 +1,16 @@
 -- What the tests of one call, one position and one served mark say, both ways.
-use Prim.Native.Nat.{ℕ, _+_, _-_, _*_, _≤_, _<_}
-use mathlib.Core.Path.{_≡_, refl, sym, _∙_}
-use mathlib.Core.Bool.{Bool, true, false, cond, _&&_, true≢false}
+use Prim.Native.Nat.{ℕ, _+_, _-_, _*_, _<_}
+use mathlib.Core.Path.{_≡_, sym, _∙_}
+use mathlib.Core.Bool.{true, false, _&&_, true≢false}
 use mathlib.Core.List.{List}
-use native.Mathlib.Omega.{arith}
 use lib.Dec.{ltb, leb, eqb}
 use borrow.Author.Tests.{lt-ltb, ltb-true, le-leb, leb-true, eqb-true, eq-eqb}
 use Rattle.base.specs.Choice.{split, and-left, and-right}
 use Rattle.repository.specs.Sections.{sec, routes}
 use Rattle.repository.specs.NetOf.{count}
 use Rattle.repository.specs.Listed.{call, calls, called, running, passes, servedMark}
-use Rattle.repository.specs.Accepted.{Under, Called, Passed}
-use Rattle.repository_calls.proofs.Ranges.{Some, some-shown, some-so}
+use Rattle.repository.specs.Accepted.{Called, Passed}
+use Rattle.repository_calls.proofs.Ranges.{some-shown, some-so}
 
 -- ---- a call
 pub record Call (w : List ℕ) (s j : ℕ) : Type 0 where
@@ -45,7 +44,8 @@ module _ (w : List ℕ) (s j : ℕ) where
   pub call-so : Call w s j → call w s j ≡ true
   unfolding call
   call-so h =
-      rw (lt-ltb _ _ (h .route), lt-ltb _ _ (h .first-in), lt-ltb _ _ (h .last-in), eq-eqb _ _ (h .first), eq-eqb _ _ (h .last))
+      rw (lt-ltb _ _ (h .route), lt-ltb _ _ (h .first-in), lt-ltb _ _ (h .last-in), eq-eqb _ _ (h .first))
+      (eq-eqb _ _ (h .last))
 
 -- ---- a position
 module _ (w : List ℕ) (r p : ℕ) where
@@ -54,13 +54,16 @@ module _ (w : List ℕ) (r p : ℕ) where
   called-shown e =
       let x = some-shown (calls w r p) _ _ e in
       let j = x .at in
-      let h₂ = and-left (eqb (sec w 5 (j * 3)) r && leb (sec w 5 (j * 3 + 1)) p) (leb p (sec w 5 (j * 3 + 2))) (x .passes) in
+      let a = eqb (sec w 5 (j * 3)) r in
+      let b = leb (sec w 5 (j * 3 + 1)) p in
+      let c = leb p (sec w 5 (j * 3 + 2)) in
+      let h₂ = and-left (a && b) c (x .passes) in
       record {
         row = j;
         under = record { from = x .from; to = x .to };
-        route = eqb-true _ _ (and-left (eqb (sec w 5 (j * 3)) r) (leb (sec w 5 (j * 3 + 1)) p) h₂);
-        first = leb-true _ _ (and-right (eqb (sec w 5 (j * 3)) r) (leb (sec w 5 (j * 3 + 1)) p) h₂);
-        last = leb-true _ _ (and-right (eqb (sec w 5 (j * 3)) r && leb (sec w 5 (j * 3 + 1)) p) (leb p (sec w 5 (j * 3 + 2))) (x .passes));
+        route = eqb-true _ _ (and-left a b h₂);
+        first = leb-true _ _ (and-right a b h₂);
+        last = leb-true _ _ (and-right (a && b) c (x .passes));
       }
 
   pub called-so : Called w r p (sec w 12 (sec w 11 r + p)) → called w r p ≡ true

@@ -1,0 +1,39 @@
+-- The stops that a loop over marks visits are in range, and each is past the one before.
+use Prim.Native.Nat.{ℕ, _+_, _-_, _≤_, _<_}
+use mathlib.Core.Path.{_≡_, sym, _∙_}
+use mathlib.Core.Bool.{Bool}
+use mathlib.Core.List.{List}
+use native.Mathlib.Omega.{arith}
+use lib.ListN.{length}
+use Rattle.marks.specs.Marks.{marked, firstOf}
+use Rattle.marks.specs.declared.Next.{Next}
+use Rattle.marks.specs.declared.Next.the-variants.{At}
+use Rattle.allocator.specs.Layout.{Sized, flags, markOf, heldMarkOf}
+use Rattle.allocator.specs.Marked.{after}
+use Rattle.allocator.proofs.Tabulated.{tabulate-length}
+use Rattle.allocator.proofs.Visited.{after-from, after-below}
+
+-- as many flags as stops
+pub mark-long : (n m : ℕ) (q : List ℕ) → length (markOf n m q) ≡ n
+unfolding markOf flags
+mark-long n m q = tabulate-length (marked _) n 0
+
+pub held-long : (n m : ℕ) (q : List ℕ) → length (heldMarkOf n m q) ≡ n
+unfolding heldMarkOf flags
+held-long n m q = tabulate-length (marked _) n 0
+
+-- s is the first stop from i on whose flag is set, a the answer that says so
+module _ (i : ℕ) (fs : List Bool) {n s : ℕ} {a : Next} (e : a ≡ firstOf (after i fs)) (f : a ≡ At s)
+    (long : length fs ≡ n) where
+  pub visit-below : s < n
+  visit-below = omega (arith, after-below i fs (sym f ∙ e))
+
+  pub visit-less : n - (s + 1) < n - i
+  visit-less = omega (arith, visit-below, after-from i fs (sym f ∙ e))
+
+  module _ {m : ℕ} {w q : List ℕ} (z : Sized n m w q) where
+    pub visit-fits : s < 4_294_967_296
+    visit-fits = omega (arith, visit-below, z .words .most-stops)
+
+    pub visit-past : s + 1 < 18_446_744_073_709_551_616
+    visit-past = omega (arith, visit-below, z .words .most-stops)

@@ -1,0 +1,116 @@
+// How a round begins: labels swapped, routes chosen, marks cleared.
+ghost use mathlib.Core.Path.{_≡_};
+ghost use Prim.Native.Nat.{_<_};
+ghost use Rattle.repository.specs.Accepted.{Accepted};
+ghost use Rattle.repository.specs.NetOf.{netOf};
+ghost use Rattle.allocator.specs.Layout.{Sized, view};
+ghost use Rattle.allocator.specs.Tidy.{Kept};
+ghost use Rattle.allocator.specs.Operations.{unmasked, refilled};
+ghost use Rattle.explorer_choosing.specs.Chosen.{chosenAt, chosen, openedBy};
+use marks::Next;
+use model::Direction;
+use model::Mode;
+
+// The routes that contain stop s: in each the first position of the stop may replace the route's mark.
+fn choose_at(
+    tables: &[u32],
+    words: &mut [u32],
+    marks: &mut [u64],
+    n: u32,
+    m: u32,
+    d: Direction,
+    s: u32,
+)
+    requires { ⌜ Accepted (now tables) ⌝ }
+    requires { ⌜ n ≡ netOf (now tables) .stops ⌝ }
+    requires { ⌜ m ≡ netOf (now tables) .routes ⌝ }
+    requires { ⌜ Sized n m (now words) (now marks) ⌝ }
+    requires { ⌜ s < n ⌝ }
+    ensures { λ _. ⌜ view n m (now (words .exit)) (now (marks .exit))
+        ≡ chosenAt d (netOf (now (tables .entry))) s (view n m (now (words .entry)) (now (marks .entry))) ⌝ }
+    ensures { λ _. ⌜ Kept n m (now (words .entry)) (now (marks .entry)) (now (words .exit)) (now (marks .exit)) ⌝ }
+{
+    let end = repository::calls::calls_to(tables, s);
+    let mut j = repository::calls::calls_from(tables, s);
+    while j < end {
+        let r = repository::calls::call_route(tables, j);
+        let p = discovery::index_in_route(tables, j);
+        allocator::activate(words, marks, n, m, d, r, p);
+        j += 1;
+    }
+}
+
+// From each marked stop, ascending.
+pub fn choose_routes(
+    tables: &[u32],
+    words: &mut [u32],
+    marks: &mut [u64],
+    n: u32,
+    m: u32,
+    d: Direction,
+)
+    requires { ⌜ Accepted (now tables) ⌝ }
+    requires { ⌜ n ≡ netOf (now tables) .stops ⌝ }
+    requires { ⌜ m ≡ netOf (now tables) .routes ⌝ }
+    requires { ⌜ Sized n m (now words) (now marks) ⌝ }
+    ensures { λ _. ⌜ view n m (now (words .exit)) (now (marks .exit))
+        ≡ chosen d (netOf (now (tables .entry))) (view n m (now (words .entry)) (now (marks .entry))) ⌝ }
+    ensures { λ _. ⌜ Kept n m (now (words .entry)) (now (marks .entry)) (now (words .exit)) (now (marks .exit)) ⌝ }
+{
+    let mut at: usize = 0;
+    loop {
+        match allocator::next_marked(marks, n, m, at) {
+            Next::At(s) => {
+                choose_at(tables, words, marks, n, m, d, s as u32);
+                at = s + 1;
+            }
+            Next::Nothing => return,
+        }
+    }
+}
+
+// Routes chosen anew: none is to be scanned before, and in rescan mode each mark is filled again.
+fn choose_anew(
+    tables: &[u32],
+    words: &mut [u32],
+    marks: &mut [u64],
+    n: u32,
+    m: u32,
+    mode: Mode,
+    d: Direction,
+)
+    requires { ⌜ Accepted (now tables) ⌝ }
+    requires { ⌜ n ≡ netOf (now tables) .stops ⌝ }
+    requires { ⌜ m ≡ netOf (now tables) .routes ⌝ }
+    requires { ⌜ Sized n m (now words) (now marks) ⌝ }
+    ensures { λ _. ⌜ view n m (now (words .exit)) (now (marks .exit))
+        ≡ chosen d (netOf (now (tables .entry)))
+        (unmasked m (refilled mode m d (view n m (now (words .entry)) (now (marks .entry))))) ⌝ }
+    ensures { λ _. ⌜ Kept n m (now (words .entry)) (now (marks .entry)) (now (words .exit)) (now (marks .exit)) ⌝ }
+{
+    allocator::begin_choosing(words, marks, n, m, mode, d);
+    choose_routes(tables, words, marks, n, m, d);
+}
+
+// A round up to its rides. Whether any stop is marked, the caller asks before.
+pub fn open_round(
+    tables: &[u32],
+    words: &mut [u32],
+    marks: &mut [u64],
+    n: u32,
+    m: u32,
+    mode: Mode,
+    d: Direction,
+)
+    requires { ⌜ Accepted (now tables) ⌝ }
+    requires { ⌜ n ≡ netOf (now tables) .stops ⌝ }
+    requires { ⌜ m ≡ netOf (now tables) .routes ⌝ }
+    requires { ⌜ Sized n m (now words) (now marks) ⌝ }
+    ensures { λ _. ⌜ view n m (now (words .exit)) (now (marks .exit))
+        ≡ openedBy mode d (netOf (now (tables .entry))) (view n m (now (words .entry)) (now (marks .entry))) ⌝ }
+    ensures { λ _. ⌜ Kept n m (now (words .entry)) (now (marks .entry)) (now (words .exit)) (now (marks .exit)) ⌝ }
+{
+    allocator::swap_labels(words, marks, n, m);
+    choose_anew(tables, words, marks, n, m, mode, d);
+    allocator::clear_marks(words, marks, n, m);
+}

@@ -1,0 +1,6 @@
+pub mod Steps
+pub mod Paths
+pub mod Held
+pub mod Stops
+pub mod Reverse
+pub mod Footing

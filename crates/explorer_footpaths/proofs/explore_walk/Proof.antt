@@ -1,0 +1,35 @@
+-- `explore_walk`: the row leads to a stop, and takes no more than a day.
+use borrow.Author.Needs.{needs}
+use Rattle.repository.proofs.Ranges.{row-known}
+use Rattle.explorer_footpaths.proofs.Paths.{walk-in, walk-most, row-path}
+use Rattle.explorer_footpaths.proofs.explore_walk.Statement.{statement}
+use Rattle.explorer_footpaths.proofs.explore_walk.Tie as tie
+
+walk-to-requires : tie.Need-walk-to-requires
+walk-to-requires c κs = search (needs, row-known)
+
+walk-duration-requires : tie.Need-walk-duration-requires
+walk-duration-requires c κs = search (needs, row-known)
+
+explore-path-requires : tie.Need-explore-path-requires
+explore-path-requires c κs = (search needs, (search needs, (search needs, (search (needs, walk-in), search (needs, walk-most)))))
+
+same-length : tie.Need-same-length
+same-length c = search needs
+
+same-length-2 : tie.Need-same-length-2
+same-length-2 c = search needs
+
+returns : tie.Need-returns
+returns c = (search (needs, row-path), search needs)
+
+pub explore-walk-spec : {M : Type 1} → statement M
+explore-walk-spec =
+    tie.close
+    (tie.spec
+    walk-to-requires
+    walk-duration-requires
+    explore-path-requires
+    same-length
+    same-length-2
+    returns)
