@@ -10,17 +10,17 @@ use Rattle.marks.specs.declared.Next.{Next}
 use Rattle.marks.specs.declared.Next.the-variants.{At}
 use Rattle.allocator.specs.Layout.{Sized, flags, markOf, heldMarkOf}
 use Rattle.allocator.specs.Marked.{after}
-use Rattle.allocator.proofs.Tabulated.{tabulate-length}
+use Rattle.allocator.proofs.Tabulated.{tab-length}
 use Rattle.allocator.proofs.Visited.{after-from, after-below}
 
 -- as many flags as stops
 pub mark-long : (n m : ℕ) (q : List ℕ) → length (markOf n m q) ≡ n
 unfolding markOf flags
-mark-long n m q = tabulate-length (marked _) n 0
+mark-long n m q = tab-length (marked _) n 0
 
 pub held-long : (n m : ℕ) (q : List ℕ) → length (heldMarkOf n m q) ≡ n
 unfolding heldMarkOf flags
-held-long n m q = tabulate-length (marked _) n 0
+held-long n m q = tab-length (marked _) n 0
 
 -- s is the first stop from i on whose flag is set, a the answer that says so
 module _ (i : ℕ) (fs : List Bool) {n s : ℕ} {a : Next} (e : a ≡ firstOf (after i fs)) (f : a ≡ At s)
