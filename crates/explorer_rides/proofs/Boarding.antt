@@ -1,0 +1,70 @@
+-- Boarding as the code does it, in both directions: what it read and tested, turned into a case of the model's `board`.
+use Prim.Native.Nat.{ℕ, zero, suc, _<_}
+use mathlib.Core.Path.{_≡_, refl, sym, _∙_}
+use mathlib.Core.Bool.{Bool, true, false}
+use mathlib.Core.List.{List}
+use native.Mathlib.Omega.{arith}
+use lib.ListN.{getD}
+use lib.Dec.{leb}
+use borrow.Author.Tests.{le-leb}
+use Rattle.model.specs.declared.Aboard.{Aboard}
+use Rattle.model.specs.declared.Aboard.the-variants.{On as Aboard·On, Off as Aboard·Off}
+use Rattle.model.specs.declared.Direction.{Direction}
+use Rattle.model.specs.declared.Direction.the-variants.{Departure, Arrival}
+use Rattle.model.specs.Moments.{MAX, orMax, reading}
+use Rattle.model.specs.Rides.{catch, allows, boarded, board, leave}
+use Rattle.repository.specs.NetOf.{netOf}
+use Rattle.allocator.specs.Layout.{prevOf, view}
+use Rattle.explorer_rides.specs.declared.Ride.{Ride}
+use Rattle.explorer_rides.specs.declared.Ride.the-variants.{On, Off}
+use Rattle.explorer_rides.specs.Riding.{aboard, Seated, boardAt}
+use Rattle.explorer_rides.proofs.Seats.{seat-on}
+use Rattle.explorer_rides.proofs.Times.{leaveIn, leave-is}
+
+-- ---- whether the label allows another trip
+-- the label x and the moment t at which the trip aboard leaves
+abbrev pub meets : Direction → ℕ → ℕ → Bool
+meets Departure t x = leb x t
+meets Arrival t x = leb t x
+
+module _ (d : Direction) (w : List ℕ) (x p : ℕ) {ride : Ride} where
+  pub allows-on : {r v b row t : ℕ} → Seated w r ride → ride ≡ On v b row → t ≡ leaveIn d w row p
+      → meets d t x ≡ allows d (netOf w) x p (aboard ride)
+  unfolding aboard
+  allows-on {v = v} {b} z f et = rw f (go d (leave-is w v p ((seat-on z f) .times) d et))
+    where
+      go : (d : Direction) {t : ℕ} → t ≡ leave d (netOf w) v p → meets d t x ≡ allows d (netOf w) x p (Aboard·On v b)
+      go Departure e = unfold allows leave in rw e
+      go Arrival e = unfold allows leave in rw e
+
+  pub allows-off : x < 4_294_967_296 → ride ≡ Off → true ≡ allows d (netOf w) x p (aboard ride)
+  unfolding aboard allows
+  allows-off l f = rw f (go d)
+    where
+      go : (d : Direction) → true ≡ allows d (netOf w) x p Aboard·Off
+      go Departure = sym (le-leb x MAX (omega arith))
+      go Arrival = refl
+
+-- ---- a label
+reading-is : (d : Direction) (x : ℕ) → (x ≡ 0 → ⊥) → reading d x ≡ x
+unfolding reading orMax
+reading-is Departure zero h = absurd (h refl)
+reading-is Departure (suc x) h = refl
+reading-is Arrival x h = refl
+
+module _ (d : Direction) (w : List ℕ) (r p x : ℕ) (a : Aboard) {c : Bool} (real : x ≡ 0 → ⊥)
+    (e : c ≡ allows d (netOf w) x p a) where
+  pub board-stay : c ≡ false → a ≡ boardAt d (netOf w) r p x a
+  unfolding boardAt
+  board-stay f = rw (reading-is d x real, ← e, f)
+
+  pub board-on : {u : Aboard} → c ≡ true → u ≡ boarded p a (catch d (netOf w) r p x) → u ≡ boardAt d (netOf w) r p x a
+  unfolding boardAt
+  board-on f g = g ∙ rw (reading-is d x real, ← e, f)
+
+-- ---- the label that was read
+pub board-is : (d : Direction) (w : List ℕ) (n m r p : ℕ) (ws ms : List ℕ) (a : Aboard) {e : Aboard} {s x : ℕ}
+    → s ≡ netOf w .stopAt r p → x ≡ getD (prevOf n m ws) s 0 → e ≡ boardAt d (netOf w) r p x a
+    → e ≡ board d (netOf w) ((view n m ws ms) .prev) r p a
+unfolding board boardAt view
+board-is d w n m r p ws ms a es ex f = f ∙ rw (ex, es)

@@ -1,0 +1,56 @@
+-- The moments of the trip aboard as the code reads them, by the row of its times; and the leg of its ride.
+use Prim.Native.Nat.{ℕ}
+use mathlib.Core.Path.{_≡_, _∙_}
+use mathlib.Core.List.{List}
+use lib.ListN.{getD}
+use Rattle.model.specs.declared.Direction.{Direction}
+use Rattle.model.specs.declared.Direction.the-variants.{Departure, Arrival}
+use Rattle.model.specs.declared.Leg.{Leg}
+use Rattle.model.specs.declared.LegType.the-variants.{Transit}
+use Rattle.model.specs.Legs.{legOf}
+use Rattle.model.specs.Rides.{reach, leave}
+use Rattle.model.specs.Work.{Work}
+use Rattle.repository.specs.NetOf.{netOf}
+use Rattle.repository.specs.Rows.{arrivalIn, departureIn, timeRow}
+use Rattle.repository.proofs.Trips.{arrival-is, departure-is}
+use Rattle.allocator.specs.Operations.{applied}
+use Rattle.explorer_rides.specs.Riding.{Seat, rideLeg, Riding}
+use Rattle.explorer_rides.proofs.Seats.{stop-read}
+
+-- ---- a trip's moments, as the code reads them
+abbrev pub reachIn : Direction → List ℕ → ℕ → ℕ → ℕ
+reachIn Departure w row p = arrivalIn w row p
+reachIn Arrival w row p = departureIn w row p
+
+abbrev pub leaveIn : Direction → List ℕ → ℕ → ℕ → ℕ
+leaveIn Departure w row p = departureIn w row p
+leaveIn Arrival w row p = arrivalIn w row p
+
+module _ (w : List ℕ) (v p : ℕ) {row t : ℕ} (e : row ≡ timeRow w v) where
+  pub reach-is : (d : Direction) → t ≡ reachIn d w row p → t ≡ reach d (netOf w) v p
+  unfolding reach
+  reach-is Departure f = arrival-is w v p e f
+  reach-is Arrival f = departure-is w v p e f
+
+  pub leave-is : (d : Direction) → t ≡ leaveIn d w row p → t ≡ leave d (netOf w) v p
+  unfolding leave
+  leave-is Departure f = departure-is w v p e f
+  leave-is Arrival f = arrival-is w v p e f
+
+-- ---- the leg that the code makes
+module _ {d : Direction} (w : List ℕ) (v : ℕ) {r b row t : ℕ} (z : Seat w r v b row) where
+  pub leaves-departure : d ≡ Departure → t ≡ departureIn w row b → t ≡ leave d (netOf w) v b
+  leaves-departure e f = rw e (leave-is w v b (z .times) Departure f)
+
+  pub leaves-arrival : d ≡ Arrival → t ≡ arrivalIn w row b → t ≡ leave d (netOf w) v b
+  leaves-arrival e f = rw e (leave-is w v b (z .times) Arrival f)
+
+pub leg-is : (d : Direction) {w stops : List ℕ} {n k r v b row : ℕ} (s t : ℕ) {x : ℕ} {g : Leg}
+    → Riding w n k r stops → Seat w r v b row → x ≡ leave d (netOf w) v b → g ≡ legOf d (Transit v) (getD stops b 0) x s t
+    → g ≡ rideLeg d (netOf w) r v b s t
+unfolding rideLeg
+leg-is d s t h z ex eg = eg ∙ rw (stop-read h (z .since), ex)
+
+pub proposed : (d : Direction) (row s t : ℕ) (y : Work) {g h : Leg} {u : Work} → g ≡ h → u ≡ applied d row s t g y
+    → u ≡ applied d row s t h y
+proposed d row s t y e f = f ∙ rw e

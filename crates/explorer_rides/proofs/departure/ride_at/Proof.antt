@@ -1,0 +1,43 @@
+-- `ride_at`: alight, then board, departure.
+use borrow.Author.Needs.{needs}
+use Rattle.explorer_rides.proofs.Seats.{stop-room, stop-read, stop-here}
+use Rattle.explorer_rides.proofs.Boarding.{board-is}
+use Rattle.explorer_rides.proofs.departure.ride_at.Statement.{statement}
+use Rattle.explorer_rides.proofs.departure.ride_at.Tie as tie
+
+mul-s : tie.Need-mul-s
+mul-s c = search needs
+
+shared-slice-read-s : tie.Need-shared-slice-read-s
+shared-slice-read-s c = search (needs, stop-room)
+
+prev-at-requires : tie.Need-prev-at-requires
+prev-at-requires c κs = search (needs, stop-here)
+
+alight-requires : tie.Need-alight-requires
+alight-requires c κs = (search needs, (search needs, (search needs, (search (needs, stop-read), search needs))))
+
+board-requires : tie.Need-board-requires
+board-requires c κs = search needs
+
+same-length : tie.Need-same-length
+same-length c = search needs
+
+same-length-2 : tie.Need-same-length-2
+same-length-2 c = search needs
+
+returns : tie.Need-returns
+returns c = (search needs, (search needs, (search (needs, board-is, stop-read), search needs)))
+
+pub ride-at-spec : {M : Type 1} → statement M
+ride-at-spec =
+    tie.close
+    (tie.spec
+    mul-s
+    shared-slice-read-s
+    prev-at-requires
+    alight-requires
+    board-requires
+    same-length
+    same-length-2
+    returns)

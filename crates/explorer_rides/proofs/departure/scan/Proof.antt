@@ -1,0 +1,61 @@
+-- `scan`: one position after the other, departure.
+use borrow.Author.Needs.{needs}
+use mathlib.Core.Path.{_≡_}
+use Prim.Native.Nat.{_-_}
+use lib.ListN.{length}
+use Rattle.model.specs.declared.Direction.the-variants.{Departure}
+use Rattle.repository.specs.NetOf.{netOf}
+use Rattle.explorer_rides.proofs.Scanning.{left, course-up, left-up, left-end, Along, along-start, along-step, along-end, along-kept}
+use Rattle.explorer_rides.proofs.departure.scan.Statement.{statement}
+use Rattle.explorer_rides.proofs.departure.scan.Tie as tie
+
+abbrev Inv-loop : tie.InvT-loop
+Inv-loop tables words₀ marks₀ stops n m k target r from end ride₀ p₀ words marks ride p =
+    Along Departure tables n m k (target .0) r from words₀ marks₀ words marks ride (left Departure (netOf tables) r p)
+    × (length words ≡ length words₀) × (length marks ≡ length marks₀)
+
+abbrev μ-loop : tie.MeasureT-loop
+μ-loop tables words₀ marks₀ stops n m k target r from end ride₀ p₀ words marks ride p = end - p
+
+route-len-requires : tie.Need-route-len-requires Inv-loop μ-loop
+route-len-requires c κs = search needs
+
+loop-holds : tie.Need-loop-holds Inv-loop μ-loop
+loop-holds c = (search (needs, along-start, course-up), search needs, search needs)
+
+ride-at-requires : tie.Need-ride-at-requires Inv-loop μ-loop
+ride-at-requires c κs = (search needs, (search needs, (search needs, search needs)))
+
+add-p : tie.Need-add-p Inv-loop μ-loop
+add-p c = search needs
+
+loop-less : tie.Need-loop-less Inv-loop μ-loop
+loop-less c = search needs
+
+loop-again : tie.Need-loop-again Inv-loop μ-loop
+loop-again c = (search (needs, along-step, left-up), search needs, search needs)
+
+same-length : tie.Need-same-length Inv-loop μ-loop
+same-length c = search needs
+
+same-length-2 : tie.Need-same-length-2 Inv-loop μ-loop
+same-length-2 c = search needs
+
+returns : tie.Need-returns Inv-loop μ-loop
+returns c = (search (needs, along-end, left-end), search (needs, along-kept))
+
+pub scan-spec : {M : Type 1} → statement M
+scan-spec =
+    tie.close
+    (tie.spec
+    Inv-loop
+    μ-loop
+    route-len-requires
+    loop-holds
+    ride-at-requires
+    add-p
+    loop-less
+    loop-again
+    same-length
+    same-length-2
+    returns)

@@ -1,0 +1,26 @@
+-- `leg_from`: the leg from where the trip was boarded.
+use borrow.Author.Needs.{needs}
+use Rattle.explorer_rides.proofs.Seats.{seat-room}
+use Rattle.explorer_rides.proofs.Times.{leg-is}
+use Rattle.explorer_rides.proofs.seat.leg_from.Statement.{statement}
+use Rattle.explorer_rides.proofs.seat.leg_from.Tie as tie
+
+mul-near : tie.Need-mul-near
+mul-near c = search needs
+
+shared-slice-read-near : tie.Need-shared-slice-read-near
+shared-slice-read-near c = search (needs, seat-room)
+
+leaves-at-requires : tie.Need-leaves-at-requires
+leaves-at-requires c κs = search needs
+
+ride-leg-requires : tie.Need-ride-leg-requires
+ride-leg-requires c κs = search needs
+
+returns : tie.Need-returns
+returns c = search (needs, leg-is)
+
+pub leg-from-spec : {M : Type 1} → statement M
+leg-from-spec =
+    tie.close
+    (tie.spec mul-near shared-slice-read-near leaves-at-requires ride-leg-requires returns)

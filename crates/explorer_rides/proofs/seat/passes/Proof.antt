@@ -1,0 +1,24 @@
+-- `passes`: both tests of a proposal.
+use borrow.Author.Needs.{needs}
+use Rattle.explorer_rides.proofs.Alighting.{both-tested, one-failed}
+use Rattle.explorer_rides.proofs.seat.passes.Statement.{statement}
+use Rattle.explorer_rides.proofs.seat.passes.Tie as tie
+
+is-ahead-requires : tie.Need-is-ahead-requires
+is-ahead-requires c κs = search needs
+
+best-at-requires : tie.Need-best-at-requires
+best-at-requires c κs = search needs
+
+is-better-requires : tie.Need-is-better-requires
+is-better-requires c κs = search needs
+
+returns : tie.Need-returns
+returns c = search (needs, both-tested)
+
+returns-2 : tie.Need-returns-2
+returns-2 c = search (needs, one-failed)
+
+pub passes-spec : {M : Type 1} → statement M
+passes-spec =
+    tie.close (tie.spec is-ahead-requires best-at-requires is-better-requires returns returns-2)

@@ -1,0 +1,2 @@
+-- The definitions that the contracts of `explorer_rides` cite.
+pub mod Riding

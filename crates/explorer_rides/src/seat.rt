@@ -1,0 +1,158 @@
+// What the two scans share: a trip is caught at a position, and proposes the stops that it comes to.
+ghost use mathlib.Core.Bool.{_&&_};
+ghost use mathlib.Core.Path.{_≡_};
+ghost use Prim.Native.Nat.{_*_, _<_};
+ghost use lib.ListN.{getD};
+ghost use Rattle.model.specs.declared.LegType.the-variants.{Transit};
+ghost use Rattle.model.specs.Legs.{legOf};
+ghost use Rattle.model.specs.Moments.{better, ahead};
+ghost use Rattle.model.specs.Rides.{leave, catch, boarded};
+ghost use Rattle.repository.specs.NetOf.{netOf};
+ghost use Rattle.discovery.specs.Trips.{tripIs};
+ghost use Rattle.allocator.specs.Layout.{Words, Sized, bestOf, view};
+ghost use Rattle.allocator.specs.Operations.{applied};
+ghost use Rattle.allocator.specs.Tidy.{Kept};
+ghost use Rattle.explorer_rides.specs.Riding.{aboard, Seat, Seated, rideLeg, OnRoute, Riding};
+use super::Ride;
+use discovery::Trip;
+use model::Direction;
+use model::Leg;
+use model::LegType;
+use shared::Time;
+
+// The first trip that arrives at position p not before the label; in an arrival search the last not after it.
+fn find_trip(tables: &[u32], d: Direction, r: u32, p: u32, label: Time) -> Trip
+    requires { ⌜ OnRoute (now tables) r p ⌝ }
+    requires { ⌜ 0 < label .0 ⌝ }
+    ensures { λ t. ⌜ t ≡ tripIs (catch d (netOf (now (tables .entry))) r p (label .0)) ⌝ }
+{
+    match d {
+        Direction::Departure => discovery::find_earliest_trip(tables, r, p, label),
+        Direction::Arrival => discovery::find_latest_trip(tables, r, p, label),
+    }
+}
+
+// Boards that trip at position p. Where there is none, the ride goes on.
+pub fn catch_trip(tables: &[u32], d: Direction, r: u32, p: u32, label: Time, ride: Ride) -> Ride
+    requires { ⌜ OnRoute (now tables) r p ⌝ }
+    requires { ⌜ Seated (now tables) r ride ⌝ }
+    requires { ⌜ 0 < label .0 ⌝ }
+    ensures { λ e. ⌜ aboard e ≡ boarded p (aboard ride) (catch d (netOf (now (tables .entry))) r p (label .0)) ⌝ }
+    ensures { λ e. ⌜ Seated (now (tables .entry)) r e ⌝ }
+{
+    let found = find_trip(tables, d, r, p, label);
+    match found {
+        Trip::At(v) => Ride::On(v, p, repository::times::time_row(tables, v)),
+        Trip::Nothing => ride,
+    }
+}
+
+// When the trip v left position b, where it was boarded; in an arrival search when it came there.
+fn leaves_at(tables: &[u32], d: Direction, r: u32, b: u32, v: u32, row: u32) -> Time
+    requires { ⌜ OnRoute (now tables) r b ⌝ }
+    requires { ⌜ Seat (now tables) r v b row ⌝ }
+    ensures { λ t. ⌜ t .0 ≡ leave d (netOf (now (tables .entry))) v b ⌝ }
+{
+    match d {
+        Direction::Departure => repository::times::departure_in(tables, row, b),
+        Direction::Arrival => repository::times::arrival_in(tables, row, b),
+    }
+}
+
+// Whether t passes the test against what the target has seen. An arrival search makes none.
+fn is_ahead(d: Direction, t: Time, target: Time) -> bool
+    ensures { λ c. ⌜ c ≡ ahead d (t .0) (target .0) ⌝ }
+{
+    match d {
+        Direction::Departure => allocator::is_better(Direction::Departure, t, target),
+        Direction::Arrival => true,
+    }
+}
+
+// Whether t passes both tests: against the target, and against the best moment of the stop s.
+pub fn passes(words: &[u32], n: u32, m: u32, d: Direction, target: Time, s: u32, t: Time) -> bool
+    requires { ⌜ Words n m (now words) ⌝ }
+    requires { ⌜ s < n ⌝ }
+    ensures { λ c. ⌜ c ≡ ahead d (t .0) (target .0) && better d (t .0) (getD (bestOf n m (now (words .entry))) s 0) ⌝ }
+{
+    if is_ahead(d, t, target) {
+        let best = allocator::best_at(words, n, m, s);
+        return allocator::is_better(d, t, best);
+    }
+    false
+}
+
+// A leg on the trip v, from the stop `near` at x, which the search knew before, to the stop `far` at y.
+fn ride_leg(d: Direction, v: u32, near: u32, x: Time, far: u32, y: Time) -> Leg
+    ensures { λ g. ⌜ g ≡ legOf d (Transit v) near (x .0) far (y .0) ⌝ }
+{
+    match d {
+        Direction::Departure => Leg {
+            from: near,
+            to: far,
+            departure: x,
+            arrival: y,
+            kind: LegType::Transit(v),
+        },
+        Direction::Arrival => Leg {
+            from: far,
+            to: near,
+            departure: y,
+            arrival: x,
+            kind: LegType::Transit(v),
+        },
+    }
+}
+
+// The leg of the trip v from position b, where it was boarded, to the stop s at t.
+fn leg_from(
+    tables: &[u32],
+    stops: &[u32],
+    n: u32,
+    d: Direction,
+    k: u32,
+    r: u32,
+    s: u32,
+    t: Time,
+    v: u32,
+    b: u32,
+    row: u32,
+) -> Leg
+    requires { ⌜ Riding (now tables) n k r (now stops) ⌝ }
+    requires { ⌜ Seat (now tables) r v b row ⌝ }
+    ensures { λ g. ⌜ g ≡ rideLeg d (netOf (now (tables .entry))) r v b s (t .0) ⌝ }
+{
+    let near = stops[b as usize];
+    let x = leaves_at(tables, d, r, b, v, row);
+    ride_leg(d, v, near, x, s, t)
+}
+
+// The trip v, boarded at position b, comes to the stop s at t.
+pub fn propose(
+    tables: &[u32],
+    words: &mut [u32],
+    marks: &mut [u64],
+    stops: &[u32],
+    n: u32,
+    m: u32,
+    d: Direction,
+    k: u32,
+    r: u32,
+    s: u32,
+    t: Time,
+    v: u32,
+    b: u32,
+    row: u32,
+)
+    requires { ⌜ Riding (now tables) n k r (now stops) ⌝ }
+    requires { ⌜ Sized n m (now words) (now marks) ⌝ }
+    requires { ⌜ s < n ⌝ }
+    requires { ⌜ Seat (now tables) r v b row ⌝ }
+    ensures { λ _. ⌜ view n m (now (words .exit)) (now (marks .exit))
+        ≡ applied d (k * n) s (t .0) (rideLeg d (netOf (now (tables .entry))) r v b s (t .0))
+        (view n m (now (words .entry)) (now (marks .entry))) ⌝ }
+    ensures { λ _. ⌜ Kept n m (now (words .entry)) (now (marks .entry)) (now (words .exit)) (now (marks .exit)) ⌝ }
+{
+    let g = leg_from(tables, stops, n, d, k, r, s, t, v, b, row);
+    allocator::apply(words, marks, n, m, d, k, s, t, g);
+}
