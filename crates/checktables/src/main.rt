@@ -1,6 +1,7 @@
 // Reads lines `net w0 w1 ..`, the words of flat tables, and prints for each the number that the check gives them: 0 for accepted tables.
 ghost use Prim.Native.Nat.{_≤_};
-use libc::{STDIN_FILENO, STDOUT_FILENO};
+use libc::STDIN_FILENO;
+use libc::STDOUT_FILENO;
 use lines::Line;
 
 // The number of the tables that are the first `count` words.

@@ -61,16 +61,44 @@ fn close(words: &mut [u32], l: Line) -> Line
         return l;
     }
     if named == 0 {
-        return Line { name: value, count: count, bad: l.bad, ended: false, open: false, value: 0 };
+        return Line {
+            name: value,
+            count: count,
+            bad: l.bad,
+            ended: false,
+            open: false,
+            value: 0,
+        };
     }
     if value == 4294967296 {
-        return Line { name: named, count: count, bad: true, ended: false, open: false, value: 0 };
+        return Line {
+            name: named,
+            count: count,
+            bad: true,
+            ended: false,
+            open: false,
+            value: 0,
+        };
     }
     if count < words.len() {
         words[count] = value as u32;
-        return Line { name: named, count: count + 1, bad: l.bad, ended: false, open: false, value: 0 };
+        return Line {
+            name: named,
+            count: count + 1,
+            bad: l.bad,
+            ended: false,
+            open: false,
+            value: 0,
+        };
     }
-    Line { name: named, count: count, bad: true, ended: false, open: false, value: 0 }
+    Line {
+        name: named,
+        count: count,
+        bad: true,
+        ended: false,
+        open: false,
+        value: 0,
+    }
 }
 
 // The line with one more byte. A byte after a line's end begins the next one.
@@ -90,7 +118,14 @@ fn step_on(words: &mut [u32], l: Line, b: u8) -> Line
 {
     if b == 10 {
         let c = close(words, l);
-        return Line { name: c.name, count: c.count, bad: c.bad, ended: true, open: false, value: 0 };
+        return Line {
+            name: c.name,
+            count: c.count,
+            bad: c.bad,
+            ended: true,
+            open: false,
+            value: 0,
+        };
     }
     if b == 32 {
         return close(words, l);
@@ -99,7 +134,21 @@ fn step_on(words: &mut [u32], l: Line, b: u8) -> Line
     let value = l.value;
     let named = l.name;
     if open {
-        return Line { name: named, count: l.count, bad: l.bad, ended: false, open: true, value: longer(value, b) };
+        return Line {
+            name: named,
+            count: l.count,
+            bad: l.bad,
+            ended: false,
+            open: true,
+            value: longer(value, b),
+        };
     }
-    Line { name: named, count: l.count, bad: l.bad, ended: false, open: true, value: longer(0, b) }
+    Line {
+        name: named,
+        count: l.count,
+        bad: l.bad,
+        ended: false,
+        open: true,
+        value: longer(0, b),
+    }
 }
