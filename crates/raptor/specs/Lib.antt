@@ -1,0 +1,8 @@
+pub mod Rounds
+pub mod Stops
+pub mod Targets
+pub mod Begun
+pub mod Task
+pub mod Fixed
+pub mod Loop
+pub mod Steps
