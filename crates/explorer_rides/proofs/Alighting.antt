@@ -1,5 +1,5 @@
 -- Alighting as the code does it, in both directions: what it read and tested, turned into a case of `alightWork`.
-use Prim.Native.Nat.{ℕ, _*_}
+use Prim.Native.Nat.{ℕ, _-_, _*_}
 use mathlib.Core.Path.{_≡_, refl, sym, _∙_}
 use mathlib.Core.Bool.{Bool, true, false, cond, _&&_}
 use mathlib.Core.List.{List}
@@ -8,7 +8,7 @@ use Rattle.base.specs.Choice.{and-left}
 use Rattle.model.specs.declared.Direction.{Direction}
 use Rattle.model.specs.declared.Direction.the-variants.{Departure, Arrival}
 use Rattle.model.specs.declared.Leg.{Leg}
-use Rattle.model.specs.Moments.{better, ahead}
+use Rattle.model.specs.Moments.{MAX, better, ahead}
 use Rattle.model.specs.Applying.{wins}
 use Rattle.model.specs.Work.{Work}
 use Rattle.model.proofs.Applied.{apply1-off}
@@ -17,9 +17,8 @@ use Rattle.allocator.specs.Layout.{bestOf, view}
 use Rattle.allocator.specs.Operations.{applied}
 use Rattle.explorer.specs.Fused.{offered, alightWork}
 use Rattle.explorer_rides.specs.declared.Ride.{Ride}
-use Rattle.explorer_rides.specs.declared.Ride.the-variants.{On, Off}
-use Rattle.explorer_rides.specs.Riding.{aboard, Seated, rideLeg, Riding}
-use Rattle.explorer_rides.proofs.Seats.{seat-on}
+use Rattle.explorer_rides.specs.Riding.{aboard, Seated, rideLeg}
+use Rattle.explorer_rides.proofs.Seats.{seat-on, aboard-on, aboard-off}
 use Rattle.explorer_rides.proofs.Times.{reachIn, reach-is}
 
 -- ---- the tests: an arrival search has none against the target
@@ -60,32 +59,30 @@ module _ (d : Direction) (row target s m : ℕ) (g : Leg) (x : Work) where
       go false f = refl
 
 -- ---- nobody is aboard
-pub alight-off : (d : Direction) (w : List ℕ) (k target r p : ℕ) (x : Work) {ride : Ride} → ride ≡ Off
-    → x ≡ alightWork d (netOf w) k target r p (aboard ride) x
-unfolding alightWork aboard
-alight-off d w k target r p x e = rw e
+pub alight-off : (d : Direction) (w : List ℕ) (k target r p : ℕ) (x : Work) (a : Ride) → a .trip ≡ MAX
+    → x ≡ alightWork d (netOf w) k target r p (aboard a) x
+unfolding alightWork
+alight-off d w k target r p x a e = rw (aboard-off a e)
 
--- ---- the trip v is aboard since b, and comes at t to the stop s
-module _ (d : Direction) (w : List ℕ) (k target r p : ℕ) {ride : Ride} {v b row s t : ℕ}
-    (z : Seated w r ride) (e : ride ≡ On v b row) (es : s ≡ netOf w .stopAt r p) (et : t ≡ reachIn d w row p) where
-  alight-on : (x : Work) → alightWork d (netOf w) k target r p (aboard ride) x
-      ≡ offered d (k * netOf w .stops) target s t (rideLeg d (netOf w) r v b s t) x
-  unfolding alightWork aboard rideLeg
-  alight-on x = let there = reach-is w v p ((seat-on z e) .times) d et in rw (e, es, there)
+-- ---- a trip is aboard, and comes at t to the stop s
+module _ (d : Direction) (w : List ℕ) (k target r p : ℕ) {a : Ride} {s t : ℕ} (z : Seated w r a) (e : a .trip ≡ MAX → ⊥)
+    (es : s ≡ netOf w .stopAt r p) (et : t ≡ reachIn d w (a .row) p) where
+  alight-on : (x : Work) → alightWork d (netOf w) k target r p (aboard a) x
+      ≡ offered d (k * netOf w .stops) target s t (rideLeg d (netOf w) r a s t) x
+  unfolding alightWork rideLeg
+  alight-on x = let there = reach-is w (a .trip) p ((seat-on z e) .times) d et in rw (aboard-on a e, es, there)
 
   -- the target or the stop has seen as good
-  pub alight-not : (n m : ℕ) (ws ms : List ℕ) {c : Bool}
-      → c ≡ ahead d t target && better d t (getD (bestOf n m ws) s 0) → c ≡ false
-      → view n m ws ms ≡ alightWork d (netOf w) k target r p (aboard ride) (view n m ws ms)
+  pub alight-not : (n m : ℕ) (ws ms : List ℕ) {c : Bool} → c ≡ ahead d t target && better d t (getD (bestOf n m ws) s 0)
+      → c ≡ false → view n m ws ms ≡ alightWork d (netOf w) k target r p (aboard a) (view n m ws ms)
   unfolding wins view
   alight-not n m ws ms f g =
       let x = view n m ws ms in
-      sym (alight-on x ∙ offer-not d (k * netOf w .stops) target s t (rideLeg d (netOf w) r v b s t) x (sym f ∙ g))
+      sym (alight-on x ∙ offer-not d (k * netOf w .stops) target s t (rideLeg d (netOf w) r a s t) x (sym f ∙ g))
 
-  pub alight-take : {n : ℕ} {stops : List ℕ} (y : Work) (other : Bool) {c : Bool} {u : Work} → Riding w n k r stops
-      → c ≡ ahead d t target && other → c ≡ true → u ≡ applied d (k * n) s t (rideLeg d (netOf w) r v b s t) y
-      → u ≡ alightWork d (netOf w) k target r p (aboard ride) y
-  alight-take {n} y other h a f eu =
-      let g = rideLeg d (netOf w) r v b s t in
-      let row : applied d (k * n) s t g y ≡ applied d (k * netOf w .stops) s t g y = rw (h .stops-are) in
-      eu ∙ row ∙ sym (alight-on y ∙ offer-ahead d (k * netOf w .stops) target s t g y (and-left _ other (sym a ∙ f)))
+  pub alight-take : (y : Work) (other : Bool) {c : Bool} {u : Work} → c ≡ ahead d t target && other → c ≡ true
+      → u ≡ applied d (k * netOf w .stops) s t (rideLeg d (netOf w) r a s t) y
+      → u ≡ alightWork d (netOf w) k target r p (aboard a) y
+  alight-take y other f g e =
+      let l = rideLeg d (netOf w) r a s t in
+      e ∙ sym (alight-on y ∙ offer-ahead d (k * netOf w .stops) target s t l y (and-left _ other (sym f ∙ g)))

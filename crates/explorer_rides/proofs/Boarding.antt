@@ -1,24 +1,23 @@
 -- Boarding as the code does it, in both directions: what it read and tested, turned into a case of the model's `board`.
-use Prim.Native.Nat.{ℕ, zero, suc, _<_}
+use Prim.Native.Nat.{ℕ, zero, suc, _-_, _<_}
 use mathlib.Core.Path.{_≡_, refl, sym, _∙_}
 use mathlib.Core.Bool.{Bool, true, false}
 use mathlib.Core.List.{List}
 use native.Mathlib.Omega.{arith}
-use lib.ListN.{getD}
 use lib.Dec.{leb}
+use lib.ListN.{getD}
 use borrow.Author.Tests.{le-leb}
 use Rattle.model.specs.declared.Aboard.{Aboard}
-use Rattle.model.specs.declared.Aboard.the-variants.{On as Aboard·On, Off as Aboard·Off}
+use Rattle.model.specs.declared.Aboard.the-variants.{On, Off}
 use Rattle.model.specs.declared.Direction.{Direction}
 use Rattle.model.specs.declared.Direction.the-variants.{Departure, Arrival}
 use Rattle.model.specs.Moments.{MAX, orMax, reading}
-use Rattle.model.specs.Rides.{catch, allows, boarded, board, leave}
+use Rattle.model.specs.Rides.{leave, catch, allows, boarded, board}
 use Rattle.repository.specs.NetOf.{netOf}
 use Rattle.allocator.specs.Layout.{prevOf, view}
 use Rattle.explorer_rides.specs.declared.Ride.{Ride}
-use Rattle.explorer_rides.specs.declared.Ride.the-variants.{On, Off}
 use Rattle.explorer_rides.specs.Riding.{aboard, Seated, boardAt}
-use Rattle.explorer_rides.proofs.Seats.{seat-on}
+use Rattle.explorer_rides.proofs.Seats.{seat-on, aboard-on, aboard-off}
 use Rattle.explorer_rides.proofs.Times.{leaveIn, leave-is}
 
 -- ---- whether the label allows another trip
@@ -27,21 +26,21 @@ abbrev pub meets : Direction → ℕ → ℕ → Bool
 meets Departure t x = leb x t
 meets Arrival t x = leb t x
 
-module _ (d : Direction) (w : List ℕ) (x p : ℕ) {ride : Ride} where
-  pub allows-on : {r v b row t : ℕ} → Seated w r ride → ride ≡ On v b row → t ≡ leaveIn d w row p
-      → meets d t x ≡ allows d (netOf w) x p (aboard ride)
-  unfolding aboard
-  allows-on {v = v} {b} z f et = rw f (go d (leave-is w v p ((seat-on z f) .times) d et))
+module _ (d : Direction) (w : List ℕ) (x p : ℕ) (a : Ride) where
+  pub allows-on : {r t : ℕ} → Seated w r a → (a .trip ≡ MAX → ⊥) → t ≡ leaveIn d w (a .row) p
+      → meets d t x ≡ allows d (netOf w) x p (aboard a)
+  allows-on z e et = rw (aboard-on a e) (go d (leave-is w (a .trip) p ((seat-on z e) .times) d et))
     where
-      go : (d : Direction) {t : ℕ} → t ≡ leave d (netOf w) v p → meets d t x ≡ allows d (netOf w) x p (Aboard·On v b)
+      go : (d : Direction) {t : ℕ} → t ≡ leave d (netOf w) (a .trip) p
+          → meets d t x ≡ allows d (netOf w) x p (On (a .trip) (a .since))
       go Departure e = unfold allows leave in rw e
       go Arrival e = unfold allows leave in rw e
 
-  pub allows-off : x < 4_294_967_296 → ride ≡ Off → true ≡ allows d (netOf w) x p (aboard ride)
-  unfolding aboard allows
-  allows-off l f = rw f (go d)
+  pub allows-off : x < 4_294_967_296 → a .trip ≡ MAX → true ≡ allows d (netOf w) x p (aboard a)
+  unfolding allows
+  allows-off l e = rw (aboard-off a e) (go d)
     where
-      go : (d : Direction) → true ≡ allows d (netOf w) x p Aboard·Off
+      go : (d : Direction) → true ≡ allows d (netOf w) x p Off
       go Departure = sym (le-leb x MAX (omega arith))
       go Arrival = refl
 

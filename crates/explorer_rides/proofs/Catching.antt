@@ -1,5 +1,5 @@
 -- The trip that is caught at a position, and that an absent label catches none.
-use Prim.Native.Nat.{ℕ, zero, suc, _+_, _≤_, _<_}
+use Prim.Native.Nat.{ℕ, zero, suc, _+_, _-_, _≤_, _<_}
 use mathlib.Core.Path.{_≡_, refl, sym, ap, _∙_}
 use mathlib.Core.Bool.{Bool, true, false, cond}
 use mathlib.Core.Option.{Option, none, some}
@@ -7,7 +7,7 @@ use mathlib.Core.List.{List}
 use native.Mathlib.Omega.{arith}
 use borrow.Author.Tests.{lt-leb}
 use Rattle.model.specs.declared.Aboard.{Aboard}
-use Rattle.model.specs.declared.Aboard.the-variants.{On as Aboard·On}
+use Rattle.model.specs.declared.Aboard.the-variants.{On}
 use Rattle.model.specs.declared.Direction.{Direction}
 use Rattle.model.specs.declared.Direction.the-variants.{Departure, Arrival}
 use Rattle.model.specs.Lists.{upto}
@@ -19,11 +19,11 @@ use Rattle.repository.specs.NetOf.{netOf}
 use Rattle.repository.specs.Rows.{TripOf, timeRow, tripCount}
 use Rattle.repository.proofs.Trips.{trip-known}
 use Rattle.discovery.specs.declared.Trip.{Trip}
-use Rattle.discovery.specs.declared.Trip.the-variants.{At, Nothing}
 use Rattle.discovery.specs.Trips.{tripIs}
+use Rattle.discovery.specs.declared.Trip.the-variants.{At, Nothing}
 use Rattle.discovery.proofs.OfRoute.{earliest-of-route, latest-of-route}
-use Rattle.explorer_rides.specs.declared.Ride.the-variants.{On}
-use Rattle.explorer_rides.specs.Riding.{aboard, Seated, seated, OnRoute, boardAt}
+use Rattle.explorer_rides.specs.Riding.{aboard, Seated, OnRoute, boardAt}
+use Rattle.explorer_rides.proofs.Seats.{aboard-on}
 
 -- ---- the lookup
 module _ {d : Direction} (w : List ℕ) (r p x : ℕ) {t : Trip} where
@@ -44,18 +44,21 @@ module _ (d : Direction) (w : List ℕ) (r p x : ℕ) {found : Trip} (e : found 
   pub caught-known : {v : ℕ} → found ≡ At v → OnRoute w r p → v < tripCount w
   caught-known f h = trip-known (h .accepted) (h .route) (caught-trip f)
 
-  pub caught-seat : {v row : ℕ} → found ≡ At v → OnRoute w r p → row ≡ timeRow w v → Seated w r (On v p row)
-  caught-seat f h g = seated (record { trip = caught-trip f; since = h .position; times = g })
+  pub caught-seat : {v row : ℕ} → found ≡ At v → OnRoute w r p → row ≡ timeRow w v
+      → Seated w r (record { trip = v; since = p; row = row })
+  caught-seat f h g = record { seat = λ real. record { trip = caught-trip f; since = h .position; times = g } }
 
-  answers : (o : Option ℕ) → found ≡ tripIs o → (a : Aboard) {v : ℕ} → found ≡ At v → Aboard·On v p ≡ boarded p a o
+  answers : (o : Option ℕ) → found ≡ tripIs o → (a : Aboard) {v : ℕ} → found ≡ At v → On v p ≡ boarded p a o
   unfolding tripIs boarded
   answers none g a {v} f = let z : At v ≡ Nothing = sym f ∙ g in let y : _≡_ {A = ℕ} 0 1 = cc in absurd (omega arith)
-  answers (some u) g a {v} f = let z : At v ≡ At u = sym f ∙ g in let y : v ≡ u = cc in ap (λ (i : ℕ). Aboard·On i p) y
+  answers (some u) g a {v} f = let z : At v ≡ At u = sym f ∙ g in let y : v ≡ u = cc in ap (λ (i : ℕ). On i p) y
 
-  pub caught-one : (a : Aboard) {v : ℕ} (row : ℕ) → found ≡ At v
-      → aboard (On v p row) ≡ boarded p a (catch d (netOf w) r p x)
-  unfolding aboard
-  caught-one a row f = answers (catch d (netOf w) r p x) e a f
+  pub caught-one : (a : Aboard) {v : ℕ} (row : ℕ) → found ≡ At v → OnRoute w r p
+      → aboard (record { trip = v; since = p; row = row }) ≡ boarded p a (catch d (netOf w) r p x)
+  unfolding tripCount
+  caught-one a {v} row f h =
+      let real : v ≡ MAX → ⊥ = λ e. omega (arith, caught-known f h, h .accepted .laid .trips-limit) in
+      aboard-on (record { trip = v; since = p; row = row }) real ∙ answers (catch d (netOf w) r p x) e a f
 
   empty : (o : Option ℕ) → found ≡ tripIs o → (a : Aboard) → found ≡ Nothing → a ≡ boarded p a o
   unfolding tripIs boarded

@@ -8,7 +8,7 @@ use Rattle.base.specs.Tab.{tab}
 use Rattle.marks.specs.Marks.{marked, firstOf}
 use Rattle.marks.specs.declared.Next.{Next}
 use Rattle.marks.specs.declared.Next.the-variants.{At, Nothing}
-use Rattle.model.specs.declared.Aboard.the-variants.{Off as Aboard·Off}
+use Rattle.model.specs.declared.Aboard.the-variants.{Off}
 use Rattle.model.specs.declared.Direction.{Direction}
 use Rattle.model.specs.declared.Direction.the-variants.{Arrival}
 use Rattle.model.specs.Rides.{course}
@@ -16,10 +16,10 @@ use Rattle.model.specs.Work.{Work}
 use Rattle.model.proofs.Choosing.{Placed}
 use Rattle.repository.specs.Accepted.{Accepted}
 use Rattle.repository.specs.NetOf.{netOf}
-use Rattle.allocator.specs.Layout.{pages, flags, activeOf, maskOf, view}
-use Rattle.allocator.specs.Marked.{after}
 use Rattle.allocator.specs.Sections.{sect}
+use Rattle.allocator.specs.Layout.{pages, flags, activeOf, maskOf, view}
 use Rattle.allocator.specs.Tidy.{Kept}
+use Rattle.allocator.specs.Marked.{after}
 use Rattle.allocator.proofs.Keeping.{kept-same, kept-then}
 use Rattle.allocator.proofs.Tabulated.{tab-length}
 use Rattle.allocator.proofs.Visited.{after-start, after-from, after-below, after-next, after-none}
@@ -43,7 +43,7 @@ riding h l e = record {
 
 pub route-is : (d : Direction) (w : List ℕ) (n m k target r : ℕ) (ws ms : List ℕ) {from : ℕ} {y : Work}
     → from ≡ getD (activeOf n m ws) r 0
-    → y ≡ scanWork d (netOf w) k target r (course d (netOf w) r from) Aboard·Off (view n m ws ms)
+    → y ≡ scanWork d (netOf w) k target r (course d (netOf w) r from) Off (view n m ws ms)
     → y ≡ routeWork d (netOf w) k target r (view n m ws ms)
 unfolding routeWork view
 route-is d w n m k target r ws ms e f = f ∙ rw e

@@ -4,11 +4,12 @@ use mathlib.Core.Path.{_≡_, refl}
 use mathlib.Core.List.{List, [], _∷_}
 use native.Mathlib.Omega.{arith}
 use native.Mathlib.Numerals.{add-one}
-use Rattle.model.specs.declared.Aboard.the-variants.{Off as Aboard·Off}
+use Rattle.model.specs.declared.Aboard.the-variants.{Off}
 use Rattle.model.specs.declared.Direction.{Direction}
 use Rattle.model.specs.declared.Direction.the-variants.{Departure, Arrival}
 use Rattle.model.specs.Lists.{upto, downto}
 use Rattle.model.specs.Tables.{Net}
+use Rattle.model.specs.Moments.{MAX}
 use Rattle.model.specs.Rides.{board, course}
 use Rattle.repository.specs.NetOf.{netOf}
 use Rattle.allocator.specs.Layout.{view}
@@ -16,8 +17,8 @@ use Rattle.allocator.specs.Tidy.{Kept}
 use Rattle.allocator.proofs.Keeping.{kept-same, kept-then}
 use Rattle.explorer.specs.Fused.{alightWork, scanWork}
 use Rattle.explorer_rides.specs.declared.Ride.{Ride}
-use Rattle.explorer_rides.specs.declared.Ride.the-variants.{Off}
-use Rattle.explorer_rides.specs.Riding.{aboard, Seated, nobody, Riding}
+use Rattle.explorer_rides.specs.Riding.{aboard, Seated, Riding}
+use Rattle.explorer_rides.proofs.Seats.{aboard-off}
 
 -- the positions below p, downwards
 unfoldable pub below : ℕ → List ℕ
@@ -43,7 +44,7 @@ module _ (n : Net) (r : ℕ) where
 
   pub left-end : (p : ℕ) {end : ℕ} → end ≡ n .positions r → end ≤ p → left Departure n r p ≡ []
   unfolding left upto
-  left-end p e l = let none : n .positions r - p ≡ 0 = omega arith in rw none
+  left-end p e l = let past : n .positions r - p ≡ 0 = omega arith in rw past
 
   -- the arrival scan counts from one above the mark
   pub course-down : (from : ℕ) → left Arrival n r (from + 1) ≡ course Arrival n r from
@@ -72,15 +73,18 @@ mark-fits {r = r} h l = omega (arith, h .accepted .laid .positions-limit r (h .r
 module _ (d : Direction) (w : List ℕ) (n m k target r from : ℕ) (ws₀ ms₀ : List ℕ) where
   pub record Along (ws ms : List ℕ) (ride : Ride) (ps : List ℕ) : Type 0 where
     pub rest : scanWork d (netOf w) k target r ps (aboard ride) (view n m ws ms)
-        ≡ scanWork d (netOf w) k target r (course d (netOf w) r from) Aboard·Off (view n m ws₀ ms₀)
+        ≡ scanWork d (netOf w) k target r (course d (netOf w) r from) Off (view n m ws₀ ms₀)
     pub kept : Kept n m ws₀ ms₀ ws ms
     pub seated : Seated w r ride
 
 module _ {d : Direction} {w : List ℕ} {n m k target r from : ℕ} {ws₀ ms₀ : List ℕ} where
   pub along-start : {ps : List ℕ} → ps ≡ course d (netOf w) r from
-      → Along d w n m k target r from ws₀ ms₀ ws₀ ms₀ Off ps
-  unfolding aboard
-  along-start e = record { rest = rw e; kept = kept-same; seated = nobody }
+      → Along d w n m k target r from ws₀ ms₀ ws₀ ms₀ (record { trip = MAX; since = 0; row = 0 }) ps
+  along-start e = record {
+    rest = rw (e, aboard-off (record { trip = MAX; since = 0; row = 0 }) refl);
+    kept = kept-same;
+    seated = record { seat = λ real. absurd (real refl) };
+  }
 
   pub along-step : {ws ms ws′ ms′ ps qs : List ℕ} {a b : Ride} {p : ℕ}
       → Along d w n m k target r from ws₀ ms₀ ws ms a ps → ps ≡ p ∷ qs
@@ -95,7 +99,7 @@ module _ {d : Direction} {w : List ℕ} {n m k target r from : ℕ} {ws₀ ms₀
   }
 
   pub along-end : {ws ms ps : List ℕ} {a : Ride} → Along d w n m k target r from ws₀ ms₀ ws ms a ps → ps ≡ []
-      → view n m ws ms ≡ scanWork d (netOf w) k target r (course d (netOf w) r from) Aboard·Off (view n m ws₀ ms₀)
+      → view n m ws ms ≡ scanWork d (netOf w) k target r (course d (netOf w) r from) Off (view n m ws₀ ms₀)
   unfolding scanWork
   along-end h e = rw e at (h .rest)
 

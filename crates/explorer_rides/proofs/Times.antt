@@ -1,5 +1,5 @@
 -- The moments of the trip aboard as the code reads them, by the row of its times; and the leg of its ride.
-use Prim.Native.Nat.{ℕ}
+use Prim.Native.Nat.{ℕ, _*_}
 use mathlib.Core.Path.{_≡_, _∙_}
 use mathlib.Core.List.{List}
 use lib.ListN.{getD}
@@ -11,9 +11,10 @@ use Rattle.model.specs.Legs.{legOf}
 use Rattle.model.specs.Rides.{reach, leave}
 use Rattle.model.specs.Work.{Work}
 use Rattle.repository.specs.NetOf.{netOf}
-use Rattle.repository.specs.Rows.{arrivalIn, departureIn, timeRow}
+use Rattle.repository.specs.Rows.{timeRow, arrivalIn, departureIn}
 use Rattle.repository.proofs.Trips.{arrival-is, departure-is}
 use Rattle.allocator.specs.Operations.{applied}
+use Rattle.explorer_rides.specs.declared.Ride.{Ride}
 use Rattle.explorer_rides.specs.Riding.{Seat, rideLeg, Riding}
 use Rattle.explorer_rides.proofs.Seats.{stop-read}
 
@@ -38,19 +39,22 @@ module _ (w : List ℕ) (v p : ℕ) {row t : ℕ} (e : row ≡ timeRow w v) wher
   leave-is Arrival f = arrival-is w v p e f
 
 -- ---- the leg that the code makes
-module _ {d : Direction} (w : List ℕ) (v : ℕ) {r b row t : ℕ} (z : Seat w r v b row) where
-  pub leaves-departure : d ≡ Departure → t ≡ departureIn w row b → t ≡ leave d (netOf w) v b
-  leaves-departure e f = rw e (leave-is w v b (z .times) Departure f)
+module _ {d : Direction} (w : List ℕ) (a : Ride) {r t : ℕ} (z : Seat w r a) where
+  pub leaves-departure : d ≡ Departure → t ≡ departureIn w (a .row) (a .since)
+      → t ≡ leave d (netOf w) (a .trip) (a .since)
+  leaves-departure e f = rw e (leave-is w (a .trip) (a .since) (z .times) Departure f)
 
-  pub leaves-arrival : d ≡ Arrival → t ≡ arrivalIn w row b → t ≡ leave d (netOf w) v b
-  leaves-arrival e f = rw e (leave-is w v b (z .times) Arrival f)
+  pub leaves-arrival : d ≡ Arrival → t ≡ arrivalIn w (a .row) (a .since)
+      → t ≡ leave d (netOf w) (a .trip) (a .since)
+  leaves-arrival e f = rw e (leave-is w (a .trip) (a .since) (z .times) Arrival f)
 
-pub leg-is : (d : Direction) {w stops : List ℕ} {n k r v b row : ℕ} (s t : ℕ) {x : ℕ} {g : Leg}
-    → Riding w n k r stops → Seat w r v b row → x ≡ leave d (netOf w) v b → g ≡ legOf d (Transit v) (getD stops b 0) x s t
-    → g ≡ rideLeg d (netOf w) r v b s t
+pub leg-is : (d : Direction) {w stops : List ℕ} {n k r : ℕ} (a : Ride) (s t : ℕ) {x : ℕ} {g : Leg}
+    → Riding w n k r stops → Seat w r a
+    → x ≡ leave d (netOf w) (a .trip) (a .since) → g ≡ legOf d (Transit (a .trip)) (getD stops (a .since) 0) x s t
+    → g ≡ rideLeg d (netOf w) r a s t
 unfolding rideLeg
-leg-is d s t h z ex eg = eg ∙ rw (stop-read h (z .since), ex)
+leg-is d a s t h z ex eg = eg ∙ rw (stop-read h (z .since), ex)
 
-pub proposed : (d : Direction) (row s t : ℕ) (y : Work) {g h : Leg} {u : Work} → g ≡ h → u ≡ applied d row s t g y
-    → u ≡ applied d row s t h y
-proposed d row s t y e f = f ∙ rw e
+pub proposed : (d : Direction) {w stops : List ℕ} {n k r : ℕ} (s t : ℕ) (y : Work) {g h : Leg} {u : Work}
+    → Riding w n k r stops → g ≡ h → u ≡ applied d (k * n) s t g y → u ≡ applied d (k * netOf w .stops) s t h y
+proposed d s t y z e f = f ∙ rw (z .stops-are, e)

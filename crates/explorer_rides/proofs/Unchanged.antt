@@ -5,7 +5,7 @@ use mathlib.Core.Bool.{Bool, true, false, cond}
 use mathlib.Core.List.{List, [], _∷_}
 use lib.ListN.{getD}
 use Rattle.model.specs.declared.Aboard.{Aboard}
-use Rattle.model.specs.declared.Aboard.the-variants.{On as Aboard·On, Off as Aboard·Off}
+use Rattle.model.specs.declared.Aboard.the-variants.{On, Off}
 use Rattle.model.specs.declared.Direction.{Direction}
 use Rattle.model.specs.declared.Leg.{Leg}
 use Rattle.model.specs.Tables.{Net}
@@ -35,8 +35,8 @@ offer-same d row target s m g x = go (ahead d m target)
 module _ (d : Direction) (n : Net) (k target r : ℕ) where
   alight-same : (p : ℕ) (a : Aboard) (x : Work) → Same x (alightWork d n k target r p a x)
   unfolding alightWork
-  alight-same p Aboard·Off x = record { active = refl; mask = refl }
-  alight-same p (Aboard·On v b) x = offer-same d _ target _ _ _ x
+  alight-same p Off x = record { active = refl; mask = refl }
+  alight-same p (On v b) x = offer-same d _ target _ _ _ x
 
   scan-same : (ps : List ℕ) (a : Aboard) (x : Work) → Same x (scanWork d n k target r ps a x)
   unfolding scanWork
@@ -45,7 +45,7 @@ module _ (d : Direction) (n : Net) (k target r : ℕ) where
 
   route-same : (x : Work) → Same x (routeWork d n k target r x)
   unfolding routeWork
-  route-same x = scan-same (course d n r (getD (x .active) r 0)) Aboard·Off x
+  route-same x = scan-same (course d n r (getD (x .active) r 0)) Off x
 
 module _ (d : Direction) (w : List ℕ) (n m k target r : ℕ) (ws ms ws′ ms′ : List ℕ)
     (e : view n m ws′ ms′ ≡ routeWork d (netOf w) k target r (view n m ws ms)) where

@@ -29,39 +29,35 @@ fn alight(
     s: u32,
     ride: Ride,
 )
-    requires { ⌜ Riding (now tables) n k r (now stops) ⌝ }
-    requires { ⌜ Sized n m (now words) (now marks) ⌝ }
-    requires { ⌜ p < netOf (now tables) .positions r ⌝ }
     requires { ⌜ s ≡ netOf (now tables) .stopAt r p ⌝ }
     requires { ⌜ Seated (now tables) r ride ⌝ }
+    requires { ⌜ Riding (now tables) n k r (now stops) ⌝ }
+    requires { ⌜ p < netOf (now tables) .positions r ⌝ }
+    requires { ⌜ Sized n m (now words) (now marks) ⌝ }
     ensures { λ _. ⌜ view n m (now (words .exit)) (now (marks .exit))
         ≡ alightWork Arrival (netOf (now (tables .entry))) k (target .0) r p (aboard ride)
         (view n m (now (words .entry)) (now (marks .entry))) ⌝ }
     ensures { λ _. ⌜ Kept n m (now (words .entry)) (now (marks .entry)) (now (words .exit)) (now (marks .exit)) ⌝ }
 {
-    match ride {
-        Ride::On(v, b, row) => {
-            let t = repository::times::departure_in(tables, row, p);
-            if super::seat::passes(words, n, m, Direction::Arrival, target, s, t) {
-                super::seat::propose(
-                    tables,
-                    words,
-                    marks,
-                    stops,
-                    n,
-                    m,
-                    Direction::Arrival,
-                    k,
-                    r,
-                    s,
-                    t,
-                    v,
-                    b,
-                    row,
-                );
-            }
-        }
-        Ride::Off => {}
+    if ride.trip == repository::MAX {
+        return;
+    }
+    let t = repository::times::departure_in(tables, ride.row, p);
+    if super::seat::passes(words, n, m, Direction::Arrival, target, s, t) {
+        super::seat::propose(
+            tables,
+            words,
+            marks,
+            stops,
+            n,
+            m,
+            Direction::Arrival,
+            k,
+            r,
+            s,
+            t,
+            ride,
+        );
     }
 }
 
@@ -71,13 +67,11 @@ fn allows(tables: &[u32], r: u32, p: u32, label: Time, ride: Ride) -> bool
     requires { ⌜ Seated (now tables) r ride ⌝ }
     ensures { λ a. ⌜ a ≡ allowed Arrival (netOf (now (tables .entry))) (label .0) p (aboard ride) ⌝ }
 {
-    match ride {
-        Ride::On(_, _, row) => {
-            let t = repository::times::arrival_in(tables, row, p);
-            t.0 <= label.0
-        }
-        Ride::Off => true,
+    if ride.trip == repository::MAX {
+        return true;
     }
+    let t = repository::times::arrival_in(tables, ride.row, p);
+    t.0 <= label.0
 }
 
 // The ride that goes on from position p. With an absent label no trip is caught.
@@ -111,9 +105,9 @@ fn ride_at(
     ride: Ride,
 ) -> Ride
     requires { ⌜ Riding (now tables) n k r (now stops) ⌝ }
-    requires { ⌜ Sized n m (now words) (now marks) ⌝ }
     requires { ⌜ p < netOf (now tables) .positions r ⌝ }
     requires { ⌜ Seated (now tables) r ride ⌝ }
+    requires { ⌜ Sized n m (now words) (now marks) ⌝ }
     ensures { λ _. ⌜ view n m (now (words .exit)) (now (marks .exit))
         ≡ alightWork Arrival (netOf (now (tables .entry))) k (target .0) r p (aboard ride)
         (view n m (now (words .entry)) (now (marks .entry))) ⌝ }
@@ -147,10 +141,15 @@ fn scan(
     requires { ⌜ from < netOf (now tables) .positions r ⌝ }
     ensures { λ _. ⌜ view n m (now (words .exit)) (now (marks .exit))
         ≡ scanWork Arrival (netOf (now (tables .entry))) k (target .0) r
-        (course Arrival (netOf (now (tables .entry))) r from) Off (view n m (now (words .entry)) (now (marks .entry))) ⌝ }
+        (course Arrival (netOf (now (tables .entry))) r from) Off
+        (view n m (now (words .entry)) (now (marks .entry))) ⌝ }
     ensures { λ _. ⌜ Kept n m (now (words .entry)) (now (marks .entry)) (now (words .exit)) (now (marks .exit)) ⌝ }
 {
-    let mut ride = Ride::Off;
+    let mut ride = Ride {
+        trip: repository::MAX,
+        since: 0,
+        row: 0,
+    };
     let mut p = from + 1;
     while 0 < p {
         p -= 1;

@@ -28,39 +28,35 @@ fn alight(
     s: u32,
     ride: Ride,
 )
-    requires { ⌜ Riding (now tables) n k r (now stops) ⌝ }
-    requires { ⌜ Sized n m (now words) (now marks) ⌝ }
-    requires { ⌜ p < netOf (now tables) .positions r ⌝ }
     requires { ⌜ s ≡ netOf (now tables) .stopAt r p ⌝ }
     requires { ⌜ Seated (now tables) r ride ⌝ }
+    requires { ⌜ Riding (now tables) n k r (now stops) ⌝ }
+    requires { ⌜ p < netOf (now tables) .positions r ⌝ }
+    requires { ⌜ Sized n m (now words) (now marks) ⌝ }
     ensures { λ _. ⌜ view n m (now (words .exit)) (now (marks .exit))
         ≡ alightWork Departure (netOf (now (tables .entry))) k (target .0) r p (aboard ride)
         (view n m (now (words .entry)) (now (marks .entry))) ⌝ }
     ensures { λ _. ⌜ Kept n m (now (words .entry)) (now (marks .entry)) (now (words .exit)) (now (marks .exit)) ⌝ }
 {
-    match ride {
-        Ride::On(v, b, row) => {
-            let t = repository::times::arrival_in(tables, row, p);
-            if super::seat::passes(words, n, m, Direction::Departure, target, s, t) {
-                super::seat::propose(
-                    tables,
-                    words,
-                    marks,
-                    stops,
-                    n,
-                    m,
-                    Direction::Departure,
-                    k,
-                    r,
-                    s,
-                    t,
-                    v,
-                    b,
-                    row,
-                );
-            }
-        }
-        Ride::Off => {}
+    if ride.trip == repository::MAX {
+        return;
+    }
+    let t = repository::times::arrival_in(tables, ride.row, p);
+    if super::seat::passes(words, n, m, Direction::Departure, target, s, t) {
+        super::seat::propose(
+            tables,
+            words,
+            marks,
+            stops,
+            n,
+            m,
+            Direction::Departure,
+            k,
+            r,
+            s,
+            t,
+            ride,
+        );
     }
 }
 
@@ -70,13 +66,11 @@ fn allows(tables: &[u32], r: u32, p: u32, label: Time, ride: Ride) -> bool
     requires { ⌜ Seated (now tables) r ride ⌝ }
     ensures { λ a. ⌜ a ≡ allowed Departure (netOf (now (tables .entry))) (label .0) p (aboard ride) ⌝ }
 {
-    match ride {
-        Ride::On(_, _, row) => {
-            let t = repository::times::departure_in(tables, row, p);
-            label.0 <= t.0
-        }
-        Ride::Off => true,
+    if ride.trip == repository::MAX {
+        return true;
     }
+    let t = repository::times::departure_in(tables, ride.row, p);
+    label.0 <= t.0
 }
 
 // The ride that goes on from position p. With an absent label no trip is caught.
@@ -110,9 +104,9 @@ fn ride_at(
     ride: Ride,
 ) -> Ride
     requires { ⌜ Riding (now tables) n k r (now stops) ⌝ }
-    requires { ⌜ Sized n m (now words) (now marks) ⌝ }
     requires { ⌜ p < netOf (now tables) .positions r ⌝ }
     requires { ⌜ Seated (now tables) r ride ⌝ }
+    requires { ⌜ Sized n m (now words) (now marks) ⌝ }
     ensures { λ _. ⌜ view n m (now (words .exit)) (now (marks .exit))
         ≡ alightWork Departure (netOf (now (tables .entry))) k (target .0) r p (aboard ride)
         (view n m (now (words .entry)) (now (marks .entry))) ⌝ }
@@ -145,11 +139,16 @@ fn scan(
     requires { ⌜ Sized n m (now words) (now marks) ⌝ }
     ensures { λ _. ⌜ view n m (now (words .exit)) (now (marks .exit))
         ≡ scanWork Departure (netOf (now (tables .entry))) k (target .0) r
-        (course Departure (netOf (now (tables .entry))) r from) Off (view n m (now (words .entry)) (now (marks .entry))) ⌝ }
+        (course Departure (netOf (now (tables .entry))) r from) Off
+        (view n m (now (words .entry)) (now (marks .entry))) ⌝ }
     ensures { λ _. ⌜ Kept n m (now (words .entry)) (now (marks .entry)) (now (words .exit)) (now (marks .exit)) ⌝ }
 {
     let end = repository::routes::route_len(tables, r);
-    let mut ride = Ride::Off;
+    let mut ride = Ride {
+        trip: repository::MAX,
+        since: 0,
+        row: 0,
+    };
     let mut p = from;
     while p < end {
         ride = ride_at(tables, words, marks, stops, n, m, k, target, r, p, ride);

@@ -16,10 +16,12 @@ ghost use Rattle.model.proofs.Choosing.{Placed};
 use marks::Next;
 use shared::Time;
 
-// Who is aboard: nobody, or a trip since a position of the route, with the first row of the trip's times.
-pub enum Ride {
-    On(u32, u32, u32),
-    Off,
+// Who is aboard: a trip since a position of the route, with the first row of the trip's times. The trip
+// MAX is none. (An enum would carry bytes that hold nothing from position to position.)
+pub struct Ride {
+    pub trip: u32,
+    pub since: u32,
+    pub row: u32,
 }
 
 pub fn explore_routes(

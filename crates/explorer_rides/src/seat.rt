@@ -42,20 +42,24 @@ pub fn catch_trip(tables: &[u32], d: Direction, r: u32, p: u32, label: Time, rid
 {
     let found = find_trip(tables, d, r, p, label);
     match found {
-        Trip::At(v) => Ride::On(v, p, repository::times::time_row(tables, v)),
+        Trip::At(v) => Ride {
+            trip: v,
+            since: p,
+            row: repository::times::time_row(tables, v),
+        },
         Trip::Nothing => ride,
     }
 }
 
-// When the trip v left position b, where it was boarded; in an arrival search when it came there.
-fn leaves_at(tables: &[u32], d: Direction, r: u32, b: u32, v: u32, row: u32) -> Time
-    requires { ⌜ OnRoute (now tables) r b ⌝ }
-    requires { ⌜ Seat (now tables) r v b row ⌝ }
-    ensures { λ t. ⌜ t .0 ≡ leave d (netOf (now (tables .entry))) v b ⌝ }
+// When the trip left the position where it was boarded; in an arrival search when it came there.
+fn leaves_at(tables: &[u32], d: Direction, r: u32, ride: Ride) -> Time
+    requires { ⌜ OnRoute (now tables) r (ride .since) ⌝ }
+    requires { ⌜ Seat (now tables) r ride ⌝ }
+    ensures { λ t. ⌜ t .0 ≡ leave d (netOf (now (tables .entry))) (ride .trip) (ride .since) ⌝ }
 {
     match d {
-        Direction::Departure => repository::times::departure_in(tables, row, b),
-        Direction::Arrival => repository::times::arrival_in(tables, row, b),
+        Direction::Departure => repository::times::departure_in(tables, ride.row, ride.since),
+        Direction::Arrival => repository::times::arrival_in(tables, ride.row, ride.since),
     }
 }
 
@@ -104,7 +108,7 @@ fn ride_leg(d: Direction, v: u32, near: u32, x: Time, far: u32, y: Time) -> Leg
     }
 }
 
-// The leg of the trip v from position b, where it was boarded, to the stop s at t.
+// The leg of the trip from the position where it was boarded to the stop s at t.
 fn leg_from(
     tables: &[u32],
     stops: &[u32],
@@ -114,20 +118,19 @@ fn leg_from(
     r: u32,
     s: u32,
     t: Time,
-    v: u32,
-    b: u32,
-    row: u32,
+    ride: Ride,
 ) -> Leg
     requires { ⌜ Riding (now tables) n k r (now stops) ⌝ }
-    requires { ⌜ Seat (now tables) r v b row ⌝ }
-    ensures { λ g. ⌜ g ≡ rideLeg d (netOf (now (tables .entry))) r v b s (t .0) ⌝ }
+    requires { ⌜ Seat (now tables) r ride ⌝ }
+    ensures { λ g. ⌜ g ≡ rideLeg d (netOf (now (tables .entry))) r ride s (t .0) ⌝ }
 {
-    let near = stops[b as usize];
-    let x = leaves_at(tables, d, r, b, v, row);
-    ride_leg(d, v, near, x, s, t)
+    let b = ride.since as usize;
+    let near = stops[b];
+    let x = leaves_at(tables, d, r, ride);
+    ride_leg(d, ride.trip, near, x, s, t)
 }
 
-// The trip v, boarded at position b, comes to the stop s at t.
+// The trip aboard comes to the stop s at t.
 pub fn propose(
     tables: &[u32],
     words: &mut [u32],
@@ -140,19 +143,18 @@ pub fn propose(
     r: u32,
     s: u32,
     t: Time,
-    v: u32,
-    b: u32,
-    row: u32,
+    ride: Ride,
 )
     requires { ⌜ Riding (now tables) n k r (now stops) ⌝ }
     requires { ⌜ Sized n m (now words) (now marks) ⌝ }
     requires { ⌜ s < n ⌝ }
-    requires { ⌜ Seat (now tables) r v b row ⌝ }
+    requires { ⌜ Seat (now tables) r ride ⌝ }
     ensures { λ _. ⌜ view n m (now (words .exit)) (now (marks .exit))
-        ≡ applied d (k * n) s (t .0) (rideLeg d (netOf (now (tables .entry))) r v b s (t .0))
+        ≡ applied d (k * netOf (now (tables .entry)) .stops) s (t .0)
+        (rideLeg d (netOf (now (tables .entry))) r ride s (t .0))
         (view n m (now (words .entry)) (now (marks .entry))) ⌝ }
     ensures { λ _. ⌜ Kept n m (now (words .entry)) (now (marks .entry)) (now (words .exit)) (now (marks .exit)) ⌝ }
 {
-    let g = leg_from(tables, stops, n, d, k, r, s, t, v, b, row);
+    let g = leg_from(tables, stops, n, d, k, r, s, t, ride);
     allocator::apply(words, marks, n, m, d, k, s, t, g);
 }

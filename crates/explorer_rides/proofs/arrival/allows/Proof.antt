@@ -6,20 +6,14 @@ use Rattle.explorer_rides.proofs.Boarding.{allows-on, allows-off}
 use Rattle.explorer_rides.proofs.arrival.allows.Statement.{statement}
 use Rattle.explorer_rides.proofs.arrival.allows.Tie as tie
 
-enum-known-ride : tie.Need-enum-known-ride
-enum-known-ride c = search needs
+returns : tie.Need-returns
+returns c = search (needs, allows-off)
 
 arrival-in-requires : tie.Need-arrival-in-requires
 arrival-in-requires c κs = search (needs, times-known)
 
-enum-told : tie.Need-enum-told
-enum-told c = search needs
-
-returns : tie.Need-returns
-returns c = search (needs, allows-on Arrival)
-
 returns-2 : tie.Need-returns-2
-returns-2 c = search (needs, allows-off)
+returns-2 c = search (needs, allows-on Arrival)
 
 pub allows-spec : {M : Type 1} → statement M
-allows-spec = tie.close (tie.spec enum-known-ride arrival-in-requires enum-told returns returns-2)
+allows-spec = tie.close (tie.spec returns arrival-in-requires returns-2)

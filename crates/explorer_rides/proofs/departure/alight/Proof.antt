@@ -6,8 +6,8 @@ use Rattle.explorer_rides.proofs.Alighting.{alight-off, alight-not, ali
 use Rattle.explorer_rides.proofs.departure.alight.Statement.{statement}
 use Rattle.explorer_rides.proofs.departure.alight.Tie as tie
 
-enum-known-ride : tie.Need-enum-known-ride
-enum-known-ride c = search needs
+returns : tie.Need-returns
+returns c = (search (needs, alight-off), search (needs, kept-same))
 
 arrival-in-requires : tie.Need-arrival-in-requires
 arrival-in-requires c κs = search (needs, times-known)
@@ -18,43 +18,31 @@ passes-requires c κs = (search needs, search (needs, stop-in))
 propose-requires : tie.Need-propose-requires
 propose-requires c κs = (search needs, (search needs, (search (needs, stop-in), search (needs, seat-on))))
 
-enum-told : tie.Need-enum-told
-enum-told c = search needs
-
 same-length : tie.Need-same-length
 same-length c = search needs
 
 same-length-2 : tie.Need-same-length-2
 same-length-2 c = search needs
 
--- what the function requires stands further back than `search` looks
-returns : tie.Need-returns
-returns c =
-    let test = c .before .before .before .before .before .before .before .before .before in
-    let asked = test .before .before .before .before .before .before .before .before .before .pre in
-    (search (needs, alight-take, asked), search needs)
+returns-2 : tie.Need-returns-2
+returns-2 c = (search (needs, alight-take), search needs)
 
 same-length-3 : tie.Need-same-length-3
 same-length-3 c = search needs
 
-returns-2 : tie.Need-returns-2
-returns-2 c = (search (needs, alight-not), search (needs, kept-same))
-
 returns-3 : tie.Need-returns-3
-returns-3 c = (search (needs, alight-off), search (needs, kept-same))
+returns-3 c = (search (needs, alight-not), search (needs, kept-same))
 
 pub alight-spec : {M : Type 1} → statement M
 alight-spec =
     tie.close
     (tie.spec
-    enum-known-ride
+    returns
     arrival-in-requires
     passes-requires
     propose-requires
-    enum-told
     same-length
     same-length-2
-    returns
-    same-length-3
     returns-2
+    same-length-3
     returns-3)

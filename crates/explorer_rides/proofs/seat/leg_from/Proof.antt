@@ -5,6 +5,9 @@ use Rattle.explorer_rides.proofs.Times.{leg-is}
 use Rattle.explorer_rides.proofs.seat.leg_from.Statement.{statement}
 use Rattle.explorer_rides.proofs.seat.leg_from.Tie as tie
 
+cast-b : tie.Need-cast-b
+cast-b c = search needs
+
 mul-near : tie.Need-mul-near
 mul-near c = search needs
 
@@ -23,4 +26,4 @@ returns c = search (needs, leg-is)
 pub leg-from-spec : {M : Type 1} → statement M
 leg-from-spec =
     tie.close
-    (tie.spec mul-near shared-slice-read-near leaves-at-requires ride-leg-requires returns)
+    (tie.spec cast-b mul-near shared-slice-read-near leaves-at-requires ride-leg-requires returns)
