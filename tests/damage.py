@@ -75,12 +75,20 @@ def listed():
     yield "an arrival after its departure", changed(n, 16, 2, 211)
     yield "a departure after the next arrival", changed(n, 16, 3, 301)
     yield "a departure at the next arrival", changed(n, 16, 3, 300)
+    yield "N with a first moment of 0", changed(n, 16, 0, 0)
+    yield "N with a last moment of 1,000,001", changed(n, 16, 19, 1_000_001)
     # 4
     two = build(2, [([0, 1], [[(10, 20), (30, 40)], [(10, 20), (30, 40)]])])
     yield "two trips at the same moments", two.flat()
     yield "arrivals out of order by one second", changed(two, 16, 4, 9)
     yield "departures out of order by one second", changed(two, 16, 5, 19)
     yield "arrivals out of order at the last position", changed(two, 16, 6, 29)
+    calls = [(100, 100), (200, 210), (300, 300)]
+    same = build(5, [([0, 1, 2], [calls, calls]), ([3, 4], [[(350, 350), (450, 450)], [(650, 650), (750, 750)]])], [(2, 3, 30)])
+    yield "N with trip 1 at trip 0's moments", same.flat()
+    yield "and an arrival one second sooner", changed(same, 16, 8, 199)
+    yield "and a departure one second sooner", changed(same, 16, 9, 209)
+    yield "and the last arrival one second sooner", changed(same, 16, 10, 299)
     # 5
     for what, value in (("NaN", 0x7FC00000), ("-0.0", 0x80000000), ("100,000", bits(100_000.0)),
                         ("the next float above 100,000", bits(100_000.0) + 1), ("-1", bits(-1.0)), ("infinity", 0x7F800000)):
