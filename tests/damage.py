@@ -96,6 +96,7 @@ def listed():
         yield "a walk of " + what, changed(walked, 10, 1, value)
     for what, value in (("86,400", 86_400), ("86,401", 86_401), ("MAX", MAX), ("MAX - 1", MAX - 1), ("0", 0)):
         yield "a span of " + what, changed(n, 8, 2, value)
+    yield "N with a distance of NaN", changed(n, 8, 3, 0x7FC00000)
 
 def damaged(rng):
     """A random network, with some of its words, or its length, changed."""
