@@ -116,7 +116,7 @@ fn put_served(tables: &[u32], stops: &[u32], places: &mut [u32], k: usize) -> us
 }
 
 // Fills the places with 0.
-fn clear(places: &mut [u32])
+pub fn clear(places: &mut [u32])
     ensures { λ _. ⌜ now (places .exit) ≡ replicate (length (now (places .entry))) 0 ⌝ }
 {
     let mut i: usize = 0;

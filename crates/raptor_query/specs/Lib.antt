@@ -1,0 +1,2 @@
+-- The definitions that the contracts of `raptor_query` cite.
+pub mod Areas

@@ -1,0 +1,2 @@
+-- The laws behind the proof of `raptor_reply`.
+pub mod Replies
