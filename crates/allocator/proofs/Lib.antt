@@ -19,3 +19,4 @@ pub mod Viewed
 pub mod Keeping
 pub mod Links
 pub mod Same
+pub mod Roomy

@@ -18,6 +18,13 @@ use Rattle.allocator.specs.Rows.{parents}
 abbrev pub pages : ℕ → ℕ
 pages n = (n + 63) / 64
 
+-- how many words, and how many words of marks, the state of s stops and r routes takes
+abbrev pub wordsRoom : ℕ → ℕ → ℕ
+wordsRoom s r = 94 * s + r
+
+abbrev pub marksRoom : ℕ → ℕ → ℕ
+marksRoom s r = 2 * pages s + pages r
+
 -- "Most: 4,096 stops, 1,024 routes": no place below overflows
 pub record Words (s r : ℕ) (w : List ℕ) : Type 0 where
   pub most-stops : s ≤ 4096

@@ -14,7 +14,7 @@ ghost use Rattle.model.specs.Lists.{anyOf};
 ghost use Rattle.model.specs.Moments.{better};
 ghost use Rattle.allocator.specs.Sections.{sect, put};
 ghost use Rattle.allocator.specs.Rows.{kindWord, tripWord, legRow, legIn, decoded, parentOf};
-ghost use Rattle.allocator.specs.Layout.{pages, Words, Marks, Sized, view, prevOf, currOf, bestOf, heldOf, activeOf, parentsOf, markOf, heldMarkOf, maskOf};
+ghost use Rattle.allocator.specs.Layout.{pages, wordsRoom, marksRoom, Words, Marks, Sized, view, prevOf, currOf, bestOf, heldOf, activeOf, parentsOf, markOf, heldMarkOf, maskOf};
 ghost use Rattle.allocator.specs.Tidy.{Tidy, Kept};
 ghost use Rattle.allocator.specs.Operations.{blank, cleared, started, swapped, unmasked, refilled, activated, unmarked, holding, stored, applied};
 ghost use Rattle.allocator.specs.Marked.{after};
@@ -91,6 +91,20 @@ fn pages_of(n: u32) -> usize
     ensures { λ p. ⌜ p ≡ pages n ⌝ }
 {
     (n as usize + 63) / 64
+}
+
+// How many words the workspace of n stops and m routes takes.
+pub fn words_room(n: u32, m: u32) -> usize
+    ensures { λ k. ⌜ k ≡ wordsRoom n m ⌝ }
+{
+    94 * n as usize + m as usize
+}
+
+// How many words of marks it takes.
+pub fn marks_room(n: u32, m: u32) -> usize
+    ensures { λ k. ⌜ k ≡ marksRoom n m ⌝ }
+{
+    2 * pages_of(n) + pages_of(m)
 }
 
 // ---- tests

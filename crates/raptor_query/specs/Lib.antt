@@ -1,2 +1,3 @@
 -- The definitions that the contracts of `raptor_query` cite.
 pub mod Areas
+pub mod Directed

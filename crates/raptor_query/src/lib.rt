@@ -10,6 +10,8 @@ ghost use Rattle.model.specs.Left.{placed};
 ghost use Rattle.repository.specs.Accepted.{Accepted};
 ghost use Rattle.repository.specs.NetOf.{netOf};
 ghost use Rattle.raptor_query.specs.Areas.{areaPart};
+ghost use Rattle.raptor_query.specs.Directed.{directionOf};
+use model::Direction;
 use model::Location;
 use model::Query;
 use model::TimeConstraint;
@@ -46,6 +48,16 @@ pub fn moment_of(t: TimeConstraint) -> Time
     match t {
         TimeConstraint::Departure(m) => m,
         TimeConstraint::Arrival(m) => m,
+    }
+}
+
+// The direction in which a query is searched.
+pub fn direction_of(t: TimeConstraint) -> Direction
+    ensures { λ d. ⌜ d ≡ directionOf t ⌝ }
+{
+    match t {
+        TimeConstraint::Departure(_) => Direction::Departure,
+        TimeConstraint::Arrival(_) => Direction::Arrival,
     }
 }
 

@@ -1,0 +1,20 @@
+-- Slices of the lengths that `wordsRoom` and `marksRoom` say hold the state of s stops and r routes, and no others do.
+-- Assumes nothing.
+use Prim.Native.Nat.{ℕ, _≤_}
+use mathlib.Core.Path.{_≡_}
+use mathlib.Core.List.{List}
+use lib.ListN.{length}
+use Rattle.allocator.specs.Layout.{wordsRoom, marksRoom, Words, Marks, Sized}
+
+module _ {s r : ℕ} {w m : List ℕ} where
+  pub sized-of : s ≤ 4096 → r ≤ 1024 → length w ≡ wordsRoom s r → length m ≡ marksRoom s r → Sized s r w m
+  sized-of h i a b = record {
+    words = record { most-stops = h; most-routes = i; words-length = a };
+    marks = record { most-stops = h; most-routes = i; marks-length = b };
+  }
+
+  pub sized-words : Sized s r w m → length w ≡ wordsRoom s r
+  sized-words z = z .words .words-length
+
+  pub sized-marks : Sized s r w m → length m ≡ marksRoom s r
+  sized-marks z = z .marks .marks-length

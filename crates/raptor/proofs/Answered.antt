@@ -1,0 +1,80 @@
+-- The contract of `solve`, case by case: refused by the tables, by a slice, by the query, or searched.
+use Prim.Native.Nat.{ℕ, zero, suc, _+_, _<_}
+use mathlib.Core.Path.{_≡_, refl, sym, ap, _∙_, subst}
+use mathlib.Core.Bool.{Bool, true, false, cond}
+use mathlib.Core.List.{List}
+use native.Mathlib.Omega.{arith}
+use lib.ListN.{length}
+use Rattle.model.specs.declared.Answer.{Answer}
+use Rattle.model.specs.declared.Answer.the-variants.{Found, Refused, NoRouteFound, FailedToBuildRoute, TooLong}
+use Rattle.model.specs.declared.Query.{Query}
+use Rattle.model.specs.Tables.{Net}
+use Rattle.model.specs.Answer.{refusal, lowest, searched, legsOf, reply, unless, answer}
+use Rattle.model.specs.Left.{written, journeyLeft}
+use Rattle.repository.specs.Accepted.{Accepted}
+use Rattle.repository.specs.NetOf.{netOf}
+use Rattle.repository.specs.Checked.{checkOf}
+use Rattle.repository_check.proofs.Whole.{accepted-is}
+use Rattle.raptor.specs.Solved.{roomFor, sized, Ended, WorkspaceLeft, Solved}
+use Rattle.raptor.specs.Searching.{Ran}
+
+module _ (t : List ℕ) (q : Query) (w y p j : List ℕ) where
+  number : ℕ
+  number = lowest (checkOf t) (sized (netOf t) w y p) (netOf t) q
+
+  -- a refusal leaves everything as it was
+  untouched : (k : ℕ) → (k ≡ 0 → ⊥) → k ≡ lowest (checkOf t) (sized (netOf t) w y p) (netOf t) q → Solved t q w y p j (Refused k) w y p j
+  unfolding answer unless journeyLeft written
+  untouched zero h e = absurd (h refl)
+  untouched (suc k) h e = record {
+    answers = answers;
+    journey = ap (λ (a : Answer). written a (legsOf (netOf t) q) j) answers;
+    workspace = record { untouched = λ z. (refl, refl, refl); ended = λ z. absurd (omega arith) };
+  }
+    where
+      answers : Refused (suc k) ≡ answer (checkOf t) (sized (netOf t) w y p) (netOf t) q (length j)
+      answers = ap (unless Refused (reply (length j) ((searched (netOf t) q) .times .target) (legsOf (netOf t) q))) e
+
+  -- 1 to 5
+  pub by-tables : {c : ℕ} → c ≡ checkOf t → (c ≡ 0 → ⊥) → Solved t q w y p j (Refused c) w y p j
+  unfolding lowest
+  by-tables {c} e h = untouched c h (rw (← e) (by c h))
+    where
+      by : (k : ℕ) → (k ≡ 0 → ⊥) → k ≡ lowest k (sized (netOf t) w y p) (netOf t) q
+      by zero h = absurd (h refl)
+      by (suc k) h = refl
+
+  module _ {n m : ℕ} {b : Bool} (h : Accepted t) (en : n ≡ netOf t .stops) (em : m ≡ netOf t .routes)
+      (eb : b ≡ roomFor n m (length w) (length y) (length p)) where
+    sound : checkOf t ≡ 0
+    sound = accepted-is t .1 h
+
+    room : sized (netOf t) w y p ≡ b
+    unfolding sized
+    room = rw (← en, ← em) (sym eb)
+
+    -- 6
+    pub by-room : b ≡ false → Solved t q w y p j (Refused 6) w y p j
+    by-room f = untouched 6 (λ z. omega arith) (unfold lowest in rw (sound, room, f))
+
+    -- 7, 8, 9
+    pub by-query : {k : ℕ} → b ≡ true → k ≡ refusal (netOf t) q → (k ≡ 0 → ⊥) → Solved t q w y p j (Refused k) w y p j
+    by-query {k} f e g = untouched k g (unfold lowest in rw (sound, room, f) e)
+
+    -- 0, 10, 12
+    pub by-search : {k : ℕ} {r : Answer} {w′ y′ p′ j′ : List ℕ} → b ≡ true → k ≡ refusal (netOf t) q → k ≡ 0
+        → Ran (netOf t) q j r w′ y′ p′ j′ → Solved t q w y p j r w′ y′ p′ j′
+    unfolding lowest answer unless journeyLeft
+    by-search {k} {r} {w′} {y′} {p′} {j′} f e z x = record {
+      answers = answers;
+      journey = x .journey ∙ ap (λ (a : Answer). written a (legsOf (netOf t) q) j) answers;
+      workspace = record { untouched = λ u. absurd (omega (arith, none)); ended = λ u. x .ended };
+    }
+      where
+        none : lowest (checkOf t) (sized (netOf t) w y p) (netOf t) q ≡ 0
+        none = rw (sound, room, f) (sym e ∙ z)
+
+        answers : r ≡ answer (checkOf t) (sized (netOf t) w y p) (netOf t) q (length j)
+        answers =
+            x .answers
+            ∙ ap (unless Refused (reply (length j) ((searched (netOf t) q) .times .target) (legsOf (netOf t) q))) (sym none)

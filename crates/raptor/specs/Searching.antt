@@ -1,0 +1,42 @@
+-- What the steps of a query that is not refused find and leave.
+use Prim.Native.Nat.{ℕ}
+use mathlib.Core.Path.{_≡_}
+use mathlib.Core.Bool.{true}
+use mathlib.Core.List.{List, _++_}
+use lib.ListN.{length}
+use Rattle.model.specs.declared.Answer.{Answer}
+use Rattle.model.specs.declared.Location.{Location}
+use Rattle.model.specs.declared.Query.{Query}
+use Rattle.model.specs.declared.Target.{Target}
+use Rattle.model.specs.Tables.{Net}
+use Rattle.model.specs.Places.{exists, placeStops}
+use Rattle.model.specs.Answer.{refusal, searched, legsOf, reply}
+use Rattle.model.specs.Left.{placed, written}
+use Rattle.model.specs.Work.{stateOf}
+use Rattle.allocator.specs.Layout.{view}
+use Rattle.raptor_query.specs.Areas.{areaPart}
+use Rattle.raptor_rounds.specs.Fixed.{Fixed}
+use Rattle.raptor_rounds.specs.Stops.{Below}
+use Rattle.raptor.specs.Solved.{Ended}
+
+-- accepted tables with s stops and r routes; the many facts of `Fixed` stand behind a function, so that only who asks for them has them
+pub record Tabled (t : List ℕ) (s r : ℕ) : Type 0 where
+  pub known : Unit {0} → Fixed t s r
+
+-- a place that exists, its stops known, and what of it stands in the workspace
+pub record Place (n : Net) (s : ℕ) (l : Location) (area : List ℕ) : Type 0 where
+  pub there : exists n l ≡ true
+  pub below : Below s (placeStops n l)
+  pub stands : area ≡ areaPart n l
+
+-- the places as `write_places` leaves them, with as many stops in each half as it says
+pub record Written (n : Net) (q : Query) (p : List ℕ) (origins goals : ℕ) : Type 0 where
+  pub places : p ≡ placed n (q .from) ++ placed n (q .to)
+  pub from-size : origins ≡ length (areaPart n (q .from))
+  pub to-size : goals ≡ length (areaPart n (q .to))
+
+-- what comes of a query that nothing refuses
+pub record Ran (n : Net) (q : Query) (j : List ℕ) (r : Answer) (w′ y′ p′ j′ : List ℕ) : Type 0 where
+  pub answers : r ≡ reply (length j) ((searched n q) .times .target) (legsOf n q)
+  pub journey : j′ ≡ written r (legsOf n q) j
+  pub ended : Ended n q w′ y′ p′
