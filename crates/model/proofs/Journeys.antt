@@ -40,7 +40,8 @@ module _ (n : Net) (ok : Sound n) (q : Task) (asked : Asked n q) (o : Order) (fa
   unfolding trace
   traced = way-is (q .direction) (n .stops) (S .parents) (R .good .way) (n .stops) (R .short)
 
-  trail : Trail n q (suc (S .times .target .round)) (S .times .target .stop) (S .times .target .time .0) (trace n q S)
+  -- its legs, the last that the search made in front
+  pub trail : Trail n q (suc (S .times .target .round)) (S .times .target .stop) (S .times .target .time .0) (trace n q S)
   trail = rw traced (R .good .trail)
 
   -- the chosen stop is a goal
@@ -75,7 +76,7 @@ module _ (n : Net) (ok : Sound n) (q : Task) (asked : Asked n q) (o : Order) (fa
   unfolding sizeOf legSize
   trail-size (begin s i) = refl
   trail-size (rode g y r e f) = rw (r .kind) (omega (arith, trail-size y))
-  trail-size (went g y w e f) = omega (arith, footpath-size (g .kind) (w .allowed), trail-size y)
+  trail-size (went g y w e f b) = omega (arith, footpath-size (g .kind) (w .allowed), trail-size y)
 
   reverse-size : (gs hs : List Leg) → sizeOf (reverseAux gs hs) ≡ sizeOf gs + sizeOf hs
   unfolding sizeOf
@@ -101,7 +102,7 @@ module _ (n : Net) (ok : Sound n) (q : Task) (asked : Asked n q) (o : Order) (fa
     where
       leg : {k s m : ℕ} {gs : List Leg} → Trail n q (suc k) s m gs → 0 < length gs
       leg (rode g y r e f) = omega arith
-      leg (went g y w e f) = omega arith
+      leg (went g y w e f b) = omega arith
 
       go : (d : Direction) → 0 < length (inOrder d (trace n q S))
       go Departure = omega (arith, reverse-length (trace n q S) [], leg trail)
@@ -117,7 +118,7 @@ module _ (n : Net) (ok : Sound n) (mode : Mode) (v : Bool) (ss gs : List ℕ) (m
       → {u y j : ℕ} {rest : List Leg} → Chain n v s x u y j rest → Departing n v ss m u y (k + j) (reverseAux hs rest)
   turned (begin s i) {j = j} c = rw (zero-add j) (record { origin = s; listed = i; chain = c })
   turned (rode {k = k} g y r e h) {j = j} c = rw (suc-add k j, ← (add-suc k j)) (turned y (ride-on g r e h c))
-  turned (went {k = k} g y w e h) c = turned y (walk-on g w e h c)
+  turned (went {k = k} g y w e h b) c = turned y (walk-on g w e h c)
 
   pub departing : Asked n (task Departure mode v ss gs m) → (o : Order) → Fair o
       → let s = search n (task Departure mode v ss gs m) o in
@@ -157,7 +158,7 @@ module _ (n : Net) (ok : Sound n) (mode : Mode) (v : Bool) (ss gs : List ℕ) (m
         in-time = omega (arith, c .1, z .in-time);
         chain = ride-on {x = g .departure .0} g r refl (omega arith) d;
       }
-  ahead both (went {k = k} {gs = hs} g y w e h) =
+  ahead both (went {k = k} {gs = hs} g y w e h b) =
       let z = ahead both y in
       let c = sooner (g .arrival .0) h (z .chain) in
       let d : Chain n v (g .to) (g .arrival .0) (z .destination) (c .0) (suc k) hs = rw e (c .2) in

@@ -16,4 +16,5 @@ pub mod Examples
 pub mod SoundN
 pub mod Asking
 pub mod ReadBack
+pub mod Fitting
 pub mod Answers

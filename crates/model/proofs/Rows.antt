@@ -172,7 +172,7 @@ trail-falls n ok q (begin s i) = over
 trail-falls n ok q (rode g y r e h) =
     down (goes-refl (q .direction) _)
     (falling-after (q .direction) (goes-trans (q .direction) _ _ _ h (ride-goes n ok (q .direction) g r)) (trail-falls n ok q y))
-trail-falls n ok q (went g y r e h) =
+trail-falls n ok q (went g y r e h b) =
     down (goes-refl (q .direction) _)
     (falling-after (q .direction) (goes-trans (q .direction) _ _ _ h (walk-goes n (q .walking) _ _ (q .direction) g r)) (trail-falls n ok q y))
 

@@ -12,3 +12,4 @@ pub mod Spans
 pub mod Exact
 pub mod Areas
 pub mod Sound
+pub mod Narrow

@@ -35,6 +35,12 @@ module _ {w : List ℕ} {r v : ℕ} (h : Accepted w) (i : r < netOf w .routes) (
 pub place-of-trip : {n : Net} {r i v : ℕ} → i < n .trips r → v ≡ n .tripAt r i → TripOf n r v
 place-of-trip {i = i} l e = record { place = i; within = l; trip = e }
 
+-- "16,384 trips"
+pub trip-few : {w : List ℕ} {r i : ℕ} → Accepted w → r < netOf w .routes → i < netOf w .trips r → netOf w .tripAt r i < 16_384
+unfolding tripCount
+trip-few {w} {r} {i} h l k =
+    let most = h .laid .trips-limit in omega (arith, trip-known {r = r} h l (place-of-trip {n = netOf w} {r = r} {i = i} k refl))
+
 pub stands : {w : List ℕ} {r v p : ℕ} → Accepted w → r < netOf w .routes → TripOf (netOf w) r v
     → p < netOf w .positions r → Stands w v p
 stands h i t l = record { trip = trip-known h i t; row = time-known h i t l refl }

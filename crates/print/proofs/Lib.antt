@@ -1,0 +1,2 @@
+-- A law on the size of a leg.
+pub mod Sizes
