@@ -2,7 +2,7 @@
 use crate::{
     lent,
     network::doubled,
-    raptor::{Allocator, Error, LegType, Location},
+    raptor::{Allocator, Error, Leg, LegType, Location},
     repository::{Repository, source::build},
     shared::time::Time,
 };
@@ -45,33 +45,32 @@ impl Query {
     }
 }
 
-fn location(place: (char, u32)) -> Location {
-    let id = format!("{}{}", place.0, place.1);
-    if place.0 == 'a' { Location::Area(id.into()) } else { Location::Stop(id.into()) }
+/// A place by its text id; of one that exists the repository has the text.
+fn location(repository: &Repository, place: (char, u32)) -> Location {
+    let at = place.1 as usize;
+    match place.0 {
+        'a' => repository.areas.get(at).map_or_else(|| Location::Area(format!("a{at}").into()), Location::from),
+        _ => repository.stops.get(at).map_or_else(|| Location::Stop(format!("s{at}").into()), Location::from),
+    }
 }
 
-fn stop_number(place: &Location) -> u32 {
+pub fn stop_number(place: &Location) -> u32 {
     match place {
         Location::Stop(id) => id[1..].parse().unwrap(),
         _ => unreachable!(),
     }
 }
 
-/// The chosen stop and round stand in the allocator only, hence this code inside the crate.
-fn search(repository: &Repository, q: &Query) -> Result<String, Error> {
-    let mut allocator = Allocator::new(repository);
-    let router = repository.router(location(q.from), location(q.to)).allow_walks(q.walks);
-    let moment = Time::from_seconds(q.moment);
-    let router = if q.arrival { router.arrival_at(moment) } else { router.departure_at(moment) };
-    let found = router.solve_with_allocator(&mut allocator)?;
-    let target = &allocator.target;
-    let mut s = format!(
-        "0 {} {} {} {}",
-        target.tau_star.as_seconds(),
-        target.best_stop.unwrap(),
-        target.best_round.unwrap(),
-        found.legs.len()
-    );
+/// What the source found.
+pub struct Found {
+    pub time: u32,
+    pub stop: u32,
+    pub round: u32,
+    pub legs: Vec<Leg>,
+}
+
+fn line(found: &Found) -> String {
+    let mut s = format!("0 {} {} {} {}", found.time, found.stop, found.round, found.legs.len());
     for leg in &found.legs {
         let (from, to) = (stop_number(&leg.from), stop_number(&leg.to));
         let (dep, arr) = (leg.departue_time.as_seconds(), leg.arrival_time.as_seconds());
@@ -82,7 +81,7 @@ fn search(repository: &Repository, q: &Query) -> Result<String, Error> {
         }
         .unwrap();
     }
-    Ok(s)
+    s
 }
 
 /// A network given to the source: its repository, with its distances lent.
@@ -95,15 +94,36 @@ impl Ready {
         Ok(Ready(repository))
     }
 
+    /// A new allocator for the network.
+    pub fn allocator(&self) -> Allocator {
+        Allocator::new(&self.0)
+    }
+
+    /// The search itself, with an allocator that is new or was reset. The chosen stop and round stand in the allocator only, hence
+    /// this code inside the crate.
+    pub fn search(&self, q: &Query, allocator: &mut Allocator) -> Result<Found, Error> {
+        let router = self.0.router(location(&self.0, q.from), location(&self.0, q.to)).allow_walks(q.walks);
+        let moment = Time::from_seconds(q.moment);
+        let router = if q.arrival { router.arrival_at(moment) } else { router.departure_at(moment) };
+        let found = router.solve_with_allocator(allocator)?;
+        let target = &allocator.target;
+        Ok(Found {
+            time: target.tau_star.as_seconds(),
+            stop: target.best_stop.unwrap(),
+            round: target.best_round.unwrap() as u32,
+            legs: found.legs,
+        })
+    }
+
     /// `0 time stop round L | ride from to trip dep arr | transfer from to dep arr | walk from to dep arr`, `7`, `10`, `11`, or
     /// `panic`. Only the network made ready last may be asked, since the distances are lent to one at a time.
     pub fn answer(&self, q: &Query) -> String {
-        match catch_unwind(AssertUnwindSafe(|| search(&self.0, q))) {
+        match catch_unwind(AssertUnwindSafe(|| self.search(q, &mut self.allocator()))) {
             Err(_) => "panic".into(),
             Ok(Err(Error::InvalidAreaID | Error::InvalidStopID)) => "7".into(),
             Ok(Err(Error::NoRouteFound)) => "10".into(),
             Ok(Err(Error::FailedToBuildRoute)) => "11".into(),
-            Ok(Ok(s)) => s,
+            Ok(Ok(found)) => line(&found),
         }
     }
 }
