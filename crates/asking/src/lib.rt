@@ -26,7 +26,7 @@ enum Place {
     Nowhere,
 }
 
-fn place(kind: u32, at: u32) -> Place {
+fn place_of(kind: u32, at: u32) -> Place {
     match kind {
         115 => return Place::At(Location::Stop(at)),
         97 => return Place::At(Location::Area(at)),
@@ -40,7 +40,7 @@ enum When {
     Never,
 }
 
-fn when(kind: u32, moment: u32) -> When {
+fn moment_of(kind: u32, moment: u32) -> When {
     match kind {
         100 => return When::At(TimeConstraint::Departure(Time(moment))),
         97 => return When::At(TimeConstraint::Arrival(Time(moment))),
@@ -70,9 +70,9 @@ pub fn query(line: &[u32], how: u32) -> Asked {
     if line.len() < 7 {
         return Asked::Nothing;
     }
-    let from = place(line[0], line[1]);
-    let to = place(line[2], line[3]);
-    let time = when(line[4], line[5]);
+    let from = place_of(line[0], line[1]);
+    let to = place_of(line[2], line[3]);
+    let time = moment_of(line[4], line[5]);
     let Place::At(f) = from else {
         return Asked::Nothing;
     };

@@ -78,30 +78,6 @@ fn digest_bytes(s: &[u8]) -> u64 {
     sum
 }
 
-fn fill_words(s: &mut [u32]) {
-    let mut i = 0;
-    while i < s.len() {
-        s[i] = 7;
-        i += 1;
-    }
-}
-
-fn fill_marks(s: &mut [u64]) {
-    let mut i = 0;
-    while i < s.len() {
-        s[i] = 7;
-        i += 1;
-    }
-}
-
-fn fill_bytes(s: &mut [u8]) {
-    let mut i = 0;
-    while i < s.len() {
-        s[i] = 7;
-        i += 1;
-    }
-}
-
 // What is left in a slice.
 fn print_left(name: &[u8], before: u64, after: u64) {
     print::text(name);
@@ -113,14 +89,6 @@ fn print_left(name: &[u8], before: u64, after: u64) {
     print::number(after);
 }
 
-// The four slices, filled with sevens.
-fn fill(words: &mut [u32], marks: &mut [u64], places: &mut [u32], journey: &mut [u8]) {
-    fill_words(words);
-    fill_marks(marks);
-    fill_words(places);
-    fill_bytes(journey);
-}
-
 // The digests of the four.
 struct Digests {
     words: u64,
@@ -129,7 +97,7 @@ struct Digests {
     journey: u64,
 }
 
-fn digests(words: &[u32], marks: &[u64], places: &[u32], journey: &[u8]) -> Digests {
+fn digest_all(words: &[u32], marks: &[u64], places: &[u32], journey: &[u8]) -> Digests {
     Digests {
         words: digest_words(words),
         marks: digest_marks(marks),
@@ -155,10 +123,10 @@ fn ask(
     journey: &mut [u8],
     q: Query,
 ) {
-    fill(words, marks, places, journey);
-    let before = digests(words, marks, places, journey);
-    print_answer(raptor::solve(tables, words, marks, places, journey, q));
-    let after = digests(words, marks, places, journey);
+    let before = digest_all(words, marks, places, journey);
+    let a = raptor::solve(tables, words, marks, places, journey, q);
+    let after = digest_all(words, marks, places, journey);
+    print_answer(a);
     print_all(before, after);
 }
 
@@ -174,20 +142,26 @@ fn short(length: usize, fault: bool) -> usize
     length
 }
 
-// The lengths that the tables ask for; tables that are refused are lent slices of one word.
-fn lent(tables: &[u32]) -> Needed {
+// The lengths that are lent: what the tables ask for, or one word each for tables that are refused.
+struct Lent {
+    words: usize,
+    marks: usize,
+    places: usize,
+}
+
+fn lent_to(tables: &[u32]) -> Lent {
     let needed = raptor::room(tables);
     match needed {
         Needed::Lengths {
-            words,
-            marks,
-            places,
-        } => return Needed::Lengths {
-            words: words,
-            marks: marks,
-            places: places,
+            words: w,
+            marks: y,
+            places: p,
+        } => return Lent {
+            words: w,
+            marks: y,
+            places: p,
         },
-        Needed::Refused(_) => return Needed::Lengths {
+        Needed::Refused(_) => return Lent {
             words: 1,
             marks: 1,
             places: 1,
@@ -195,35 +169,34 @@ fn lent(tables: &[u32]) -> Needed {
     }
 }
 
-fn answer(tables: &[u32], q: Query, buffer: usize, fault: u32) {
-    let mut words = [0u32; 4096];
-    let mut marks = [0u64; 32];
-    let mut places = [0u32; 128];
-    let mut journey = [0u8; 4096];
-    let needed = lent(tables);
-    let Needed::Lengths {
-        words: a,
-        marks: b,
-        places: c,
-    } = needed else {
-        return;
-    };
-    let w = short(a, fault == 1);
-    let y = short(b, fault == 2);
-    let p = short(c, fault == 3);
-    if 4096 < w {
+// Cuts the slices to the lengths that are lent.
+fn cut(
+    tables: &[u32],
+    words: &mut [u32],
+    marks: &mut [u64],
+    places: &mut [u32],
+    journey: &mut [u8],
+    q: Query,
+    buffer: usize,
+    fault: u32,
+) {
+    let lent = lent_to(tables);
+    let w = short(lent.words, fault == 1);
+    let y = short(lent.marks, fault == 2);
+    let p = short(lent.places, fault == 3);
+    if words.len() < w {
         print::text(b"too large\n");
         return;
     }
-    if 32 < y {
+    if marks.len() < y {
         print::text(b"too large\n");
         return;
     }
-    if 128 < p {
+    if places.len() < p {
         print::text(b"too large\n");
         return;
     }
-    if 4096 < buffer {
+    if journey.len() < buffer {
         print::text(b"too large\n");
         return;
     }
@@ -237,16 +210,28 @@ fn answer(tables: &[u32], q: Query, buffer: usize, fault: u32) {
     );
 }
 
+fn answer(tables: &[u32], q: Query, buffer: usize, fault: u32) {
+    let mut words = [7u32; 4096];
+    let mut marks = [7u64; 32];
+    let mut places = [7u32; 128];
+    let mut journey = [7u8; 4096];
+    cut(tables, &mut words, &mut marks, &mut places, &mut journey, q, buffer, fault);
+}
+
+fn bytes_of(x: u32) -> usize {
+    x as usize
+}
+
 pub fn answer_line(tables: &[u32], line: &[u32]) {
     if line.len() < 10 {
         print::text(b"no query\n");
         return;
     }
-    let buffer = line[8];
+    let buffer = bytes_of(line[8]);
     let fault = line[9];
     let asked = asking::query(line, line[7]);
     match asked {
-        Asked::Query(q) => answer(tables, q, buffer as usize, fault),
+        Asked::Query(q) => answer(tables, q, buffer, fault),
         Asked::Nothing => print::text(b"no query\n"),
     }
 }

@@ -1,0 +1,2 @@
+-- A law on parts of slices.
+pub mod Parts
