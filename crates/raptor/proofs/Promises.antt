@@ -36,7 +36,7 @@ use Rattle.model.specs.Sound.{Sound, Asked}
 use Rattle.model.proofs.Orders.{Fair, listed-fair, same-times}
 use Rattle.model.proofs.Asking.{asked}
 use Rattle.model.proofs.Answers.{unrefused, never-11}
-use Rattle.model.proofs.Journeys.{chosen, in-rounds, departing, arriving}
+use Rattle.model.proofs.Journeys.{chosen, in-rounds, bytes-at-most, departing, arriving}
 use Rattle.model.proofs.ReadBack.{Fits, size-is, read-write}
 use Rattle.model.proofs.Fitting.{journey-fits}
 use Rattle.repository.specs.Accepted.{Accepted}
@@ -113,6 +113,17 @@ reply-ran room g gs = cond-elim (λ a. ran a ≡ true) (eqb (g .time .0) 0) _ _ 
     to : (gs : List Leg) → ran (replyTo room g gs) ≡ true
     to [] = refl
     to (v ∷ vs) = cond-elim (λ a. ran a ≡ true) (leb (sizeOf (v ∷ vs)) room) _ _ (λ e. refl) (λ e. refl)
+
+-- the length that is told, where the legs take no more than so many bytes
+reply-length : (room most : ℕ) (g : Target) (gs : List Leg) → (0 < g .time .0 → sizeOf gs ≤ most) → (given (reply room g gs)) .length ≤ most
+unfolding reply replyTo given
+reply-length room most g gs h =
+    cond-elim (λ a. (given a) .length ≤ most) (eqb (g .time .0) 0) _ _ (λ e. omega arith)
+    (λ e. let ne = eqb-false (g .time .0) 0 e in to gs (h (omega arith)))
+  where
+    to : (gs : List Leg) → sizeOf gs ≤ most → (given (replyTo room g gs)) .length ≤ most
+    to [] l = omega arith
+    to (v ∷ vs) l = cond-elim (λ a. (given a) .length ≤ most) (leb (sizeOf (v ∷ vs)) room) _ _ (λ e. l) (λ e. l)
 
 module _ (t : List ℕ) (q : Query) (w y p j : List ℕ) {r : Answer} {w′ y′ p′ j′ : List ℕ} (h : Solved t q w y p j r w′ y′ p′ j′) where
   -- the number that refuses, 0 where none does
@@ -196,6 +207,22 @@ module _ (t : List ℕ) (q : Query) (w y p j : List ℕ) {r : Answer} {w′ y′
   pub never-failed : r ≢ FailedToBuildRoute
   never-failed e =
       never-11 (netOf t) (accepted-sound (accepted (ap ran e))) q (checkOf t) (sized (netOf t) w y p) (length j) (sym (h .answers) ∙ e)
+
+  -- no journey takes more than 69,692 bytes: 4,096 legs of 17, and 4 more for each of 15 rides
+  pub length-most : (given r) .length ≤ 69_692
+  unfolding given legsOf searched
+  length-most = go number refl
+    where
+      few : number ≡ 0 → 0 < goal .time .0 → sizeOf (legsOf (netOf t) q) ≤ 69_692
+      few e h =
+          let b : ran r ≡ true = ap ran (told-by e) ∙ reply-ran (length j) goal (legsOf (netOf t) q) in
+          let ok = accepted-sound (accepted b) in
+          let stops = accepted-narrow (accepted b) .stops in
+          omega (arith, bytes-at-most (netOf t) ok (taskOf (netOf t) q) (task-asked b) listed listed-fair h)
+
+      go : (k : ℕ) → number ≡ k → (given r) .length ≤ 69_692
+      go zero e = rw (told-by e) (reply-length (length j) 69_692 goal (legsOf (netOf t) q) (few e))
+      go (suc k) e = rw (refused-by k e) (omega arith)
 
   -- ==== Demand 2: "Journeys are written to bytes and read back unchanged"
   module _ {time : Time} {s k z : ℕ} (e : r ≡ Found time s k z) where
