@@ -320,8 +320,8 @@ pub fn start(words: &mut [u32], marks: &mut [u64], n: u32, m: u32, s: u32, t: Ti
         ≡ started s (t .0) (view n m (now (words .entry)) (now (marks .entry))) ⌝ }
     ensures { λ _. ⌜ Kept n m (now (words .entry)) (now (marks .entry)) (now (words .exit)) (now (marks .exit)) ⌝ }
 {
-    let i = n as usize + s as usize;
-    words[i] = t.0;
+    let at = n as usize + s as usize;
+    words[at] = t.0;
     marks::set_mark(marks, s as usize);
 }
 

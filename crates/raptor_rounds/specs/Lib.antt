@@ -1,7 +1,7 @@
 pub mod Rounds
 pub mod Stops
 pub mod Targets
-pub mod Begun
+pub mod Starting
 pub mod Task
 pub mod Fixed
 pub mod Loop

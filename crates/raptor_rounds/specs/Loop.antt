@@ -17,9 +17,9 @@ use Rattle.allocator.specs.Layout.{view, bestOf, markOf}
 use Rattle.allocator.specs.Tidy.{Tidy, Kept}
 use Rattle.allocator.proofs.Keeping.{kept-tidy}
 use Rattle.allocator.specs.Operations.{cleared, swapped}
+use Rattle.allocator.specs.Repeated.{startedAll}
 use Rattle.raptor_rounds.specs.Fixed.{Fixed}
 use Rattle.raptor_rounds.specs.Stops.{Below}
-use Rattle.raptor_rounds.specs.Begun.{startedAll}
 use Rattle.raptor_rounds.specs.Rounds.{Rounds}
 use Rattle.raptor_rounds.specs.Task.{task, roundWork, Ready, ready, search-start, search-on, search-ends, search-done}
 

@@ -21,6 +21,8 @@ use Rattle.model.proofs.Orders.{listed-fair}
 use Rattle.model.proofs.Choosing.{Placed, picks-fit}
 use Rattle.model.proofs.Search.{Inv}
 use Rattle.allocator.specs.Operations.{cleared, swapped, holding}
+use Rattle.allocator.specs.Repeated.{startedAll}
+use Rattle.allocator.proofs.Links.{begun-is, ended-is}
 use Rattle.explorer.specs.Applied.{openedWork}
 use Rattle.explorer_choosing.specs.Chosen.{openedBy}
 use Rattle.explorer_choosing.proofs.Opened.{opened-by}
@@ -29,7 +31,6 @@ use Rattle.explorer_footpaths.proofs.Footing.{ridden-footing}
 use Rattle.explorer.specs.Fused.{ridesWork, feetWork}
 use Rattle.explorer.proofs.Fused.{rides-fused, round-fused}
 use Rattle.raptor_rounds.specs.Stops.{Below}
-use Rattle.raptor_rounds.specs.Begun.{startedAll, begun-is, ended-is}
 use Rattle.raptor_rounds.specs.Rounds.{Rounds, rounds-start, rounds-next, rounds-end, rounds-all}
 
 abbrev pub task : Direction → Mode → Bool → List ℕ → List ℕ → ℕ → Task
@@ -105,8 +106,10 @@ module _ (n : Net) (d : Direction) (mode : Mode) (walking : Bool) (ss gs : List 
 
     pub search-ends : {u : Work} {b : Bool} → k < 15 → b ≡ anyOf (w .labels .mark) → b ≡ false → u ≡ swapped (n .stops) w
         → stateOf u g ≡ search n (task d mode walking ss gs t) listed
+    unfolding ended
     search-ends {u} lt eb is e =
-        rounds-end h lt (sym eb ∙ is) (ap (λ (x : Work). stateOf x g) e ∙ ended-is n (task d mode walking ss gs t) w g)
+        rounds-end h lt (sym eb ∙ is)
+        (ap (λ (x : Work). stateOf x g) (e ∙ ended-is n (task d mode walking ss gs t) (stateOf w g)))
 
     pub search-done : 15 ≤ k → stateOf w g ≡ search n (task d mode walking ss gs t) listed
     search-done le = rounds-all h le
@@ -123,4 +126,4 @@ module _ (n : Net) (d : Direction) (mode : Mode) (walking : Bool) (ss gs : List 
   search-start {w} {u} ok a b c e f =
       rounds-start ok (record { starts-in = below-in ss a; goals-in = below-in gs b; moment = c })
       (ap (λ (x : Work). stateOf x (record { stop = 0; round = 0; time = record { 0 = 0 } }))
-      (f ∙ ap (startedAll t ss) e ∙ begun-is n (task d mode walking ss gs t)))
+      (f ∙ ap (startedAll t ss) e ∙ sym (begun-is n (task d mode walking ss gs t))))

@@ -5,8 +5,8 @@ ghost use Rattle.model.specs.Round.{aim};
 ghost use Rattle.allocator.specs.Layout.{Words, Sized, view, bestOf};
 ghost use Rattle.allocator.specs.Tidy.{Tidy, Kept};
 ghost use Rattle.allocator.specs.Operations.{cleared, holding};
+ghost use Rattle.allocator.specs.Repeated.{startedAll};
 ghost use Rattle.explorer_choosing.specs.Chosen.{openedBy};
-ghost use Rattle.raptor_rounds.specs.Begun.{startedAll};
 ghost use Rattle.raptor_rounds.specs.Task.{task, roundWork, Ready};
 ghost use Rattle.raptor_rounds.specs.Fixed.{Fixed};
 ghost use Rattle.raptor_rounds.specs.Loop.{At, none};
@@ -64,6 +64,43 @@ fn scan_targets(
         i += 1;
     }
     seen
+}
+
+// The end of a round: the target record, updated where it stands.
+fn update_target(
+    words: &[u32],
+    n: u32,
+    m: u32,
+    d: Direction,
+    k: u32,
+    goals: &[u32],
+    target: &mut Target,
+)
+    requires { ⌜ Words n m (now words) ⌝ }
+    requires { ⌜ Below n (now goals) ⌝ }
+    ensures { λ _. ⌜ now (target .exit) ≡ aim d k (bestOf n m (now (words .entry))) (now (goals .entry)) (now (target .entry)) ⌝ }
+{
+    let g = *target;
+    *target = scan_targets(words, n, m, d, k, goals, g);
+}
+
+// The target after a round: the record is lent to the scan.
+fn target_after(
+    words: &[u32],
+    n: u32,
+    m: u32,
+    d: Direction,
+    k: u32,
+    goals: &[u32],
+    g: Target,
+) -> Target
+    requires { ⌜ Words n m (now words) ⌝ }
+    requires { ⌜ Below n (now goals) ⌝ }
+    ensures { λ r. ⌜ r ≡ aim d k (bestOf n m (now (words .entry))) (now (goals .entry)) g ⌝ }
+{
+    let mut target = g;
+    update_target(words, n, m, d, k, goals, &mut target);
+    target
 }
 
 // Labels and marks every start stop.
@@ -261,7 +298,7 @@ fn next_round(
     let seen = g.time;
     let d = a.direction;
     run_round(tables, words, marks, n, m, k, a, seen);
-    scan_targets(words, n, m, d, k, goals, g)
+    target_after(words, n, m, d, k, goals, g)
 }
 
 // The workspace as the search begins.

@@ -6,8 +6,8 @@ use Rattle.allocator.proofs.Operated.{both, does-start}
 use Rattle.allocator.proofs.start.Statement.{statement}
 use Rattle.allocator.proofs.start.Tie as tie
 
-add-i : tie.Need-add-i
-add-i c = search needs
+add-at : tie.Need-add-at
+add-at c = search needs
 
 mul-words : tie.Need-mul-words
 mul-words c = search needs
@@ -31,7 +31,7 @@ pub start-spec : {M : Type 1} → statement M
 start-spec =
     tie.close
     (tie.spec
-    add-i
+    add-at
     mul-words
     slice-write-words
     set-mark-requires

@@ -1,4 +1,4 @@
--- `raptor_rounds::next_round` meets its contract: a round, then the scan of the goals.
+-- `raptor_rounds::next_round` meets its contract: a round, then the target after it.
 use borrow.Author.Needs.{needs}
 use Rattle.raptor_rounds.proofs.next_round.Statement.{statement}
 use Rattle.raptor_rounds.proofs.next_round.Tie as tie
@@ -6,8 +6,8 @@ use Rattle.raptor_rounds.proofs.next_round.Tie as tie
 run-round-requires : tie.Need-run-round-requires
 run-round-requires c κs = search needs
 
-scan-targets-requires : tie.Need-scan-targets-requires
-scan-targets-requires c κs = search needs
+target-after-requires : tie.Need-target-after-requires
+target-after-requires c κs = search needs
 
 same-length : tie.Need-same-length
 same-length c = search needs
@@ -20,4 +20,4 @@ returns c = (search needs, (search needs, search needs))
 
 pub next-round-spec : {M : Type 1} → statement M
 next-round-spec =
-    tie.close (tie.spec run-round-requires scan-targets-requires same-length same-length-2 returns)
+    tie.close (tie.spec run-round-requires target-after-requires same-length same-length-2 returns)

@@ -7,7 +7,7 @@ use Rattle.allocator.specs.Layout.{view}
 use Rattle.allocator.specs.Tidy.{Kept}
 use Rattle.allocator.proofs.Keeping.{kept-same, kept-then}
 use Rattle.raptor_rounds.specs.Stops.{stop-below}
-use Rattle.raptor_rounds.specs.Begun.{Starting, starting-none, starting-on, starting-all}
+use Rattle.raptor_rounds.specs.Starting.{Starting, starting-none, starting-on, starting-all}
 use Rattle.raptor_rounds.proofs.start_all.Statement.{statement}
 use Rattle.raptor_rounds.proofs.start_all.Tie as tie
 

@@ -1,0 +1,130 @@
+//! The functions of `kiosk.h`, each behind a safe one. All that is unsafe in this crate is here.
+//!
+//! [`Checked`] can be had from [`Checked::new`] alone, so no code outside this file can search words that were not checked.
+#![allow(unsafe_code)]
+
+// As in crates/kiosk_c/include/kiosk.h. Nothing compares the two, so a change there must be made here too.
+extern "C" {
+    fn kiosk_check(tables: *const u32, tables_len: usize) -> u32;
+
+    fn kiosk_room(tables: *const u32, tables_len: usize, room: *mut u32, room_len: usize) -> u32;
+
+    fn kiosk_solve_checked(
+        tables: *const u32,
+        tables_len: usize,
+        words: *mut u32,
+        words_len: usize,
+        marks: *mut u64,
+        marks_len: usize,
+        places: *mut u32,
+        places_len: usize,
+        journey: *mut u8,
+        journey_len: usize,
+        from_kind: u32,
+        from: u32,
+        to_kind: u32,
+        to: u32,
+        when: u32,
+        moment: u32,
+        walks: u32,
+        mode: u32,
+        answer: *mut u32,
+        answer_len: usize,
+    ) -> u32;
+}
+
+/// The lengths that tables ask of a workspace.
+pub(crate) struct Room {
+    pub(crate) words: usize,
+    pub(crate) marks: usize,
+    pub(crate) places: usize,
+}
+
+/// What a query lends to the search beside the tables.
+pub(crate) struct Lent<'w> {
+    pub(crate) words: &'w mut [u32],
+    pub(crate) marks: &'w mut [u64],
+    pub(crate) places: &'w mut [u32],
+    pub(crate) journey: &'w mut [u8],
+}
+
+/// A query as the C face takes it.
+pub(crate) struct QueryWords {
+    pub(crate) from: [u32; 2],
+    pub(crate) to: [u32; 2],
+    pub(crate) when: [u32; 2],
+    pub(crate) walks: u32,
+    pub(crate) mode: u32,
+}
+
+/// An answer as the C face gives it.
+pub(crate) struct AnswerWords {
+    pub(crate) number: u32,
+    pub(crate) time: u32,
+    pub(crate) stop: u32,
+    pub(crate) round: u32,
+    pub(crate) length: u32,
+}
+
+/// Words that the check answered with 0. They are borrowed, so they stay as they were checked.
+#[derive(Clone, Copy)]
+pub(crate) struct Checked<'a>(&'a [u32]);
+
+impl<'a> Checked<'a> {
+    /// The words, or the number that the check gives instead of 0.
+    pub(crate) fn new(words: &'a [u32]) -> Result<Checked<'a>, u32> {
+        // SAFETY: pointer and length are those of one slice, which the check only reads. It asks nothing of the words themselves.
+        match unsafe { kiosk_check(words.as_ptr(), words.len()) } {
+            0 => Ok(Checked(words)),
+            number => Err(number),
+        }
+    }
+
+    pub(crate) fn words(self) -> &'a [u32] {
+        self.0
+    }
+
+    pub(crate) fn room(self) -> Room {
+        let mut room = [0; 3];
+        // SAFETY: each pointer goes with the length of its slice; the tables are only read, and the three words of `room` are ours.
+        let number = unsafe { kiosk_room(self.0.as_ptr(), self.0.len(), room.as_mut_ptr(), room.len()) };
+        assert_eq!(number, 0, "the tables were checked");
+        let [words, marks, places] = room.map(|length| length as usize);
+        Room { words, marks, places }
+    }
+
+    /// The search. What is lent may be of any length and the query of any words: the answer then says what is wrong.
+    pub(crate) fn solve(self, lent: Lent<'_>, query: &QueryWords) -> AnswerWords {
+        let mut answer = [0; 5];
+        // SAFETY: each pointer goes with the length of its slice. What is written to is borrowed by `&mut`, so it is nobody else's
+        // and no two of the slices overlap. kiosk_check answered these words with 0, which is all that this function requires; they
+        // are borrowed since, so nobody changed them. The library keeps no pointer and nothing of its own between two calls.
+        let number = unsafe {
+            kiosk_solve_checked(
+                self.0.as_ptr(),
+                self.0.len(),
+                lent.words.as_mut_ptr(),
+                lent.words.len(),
+                lent.marks.as_mut_ptr(),
+                lent.marks.len(),
+                lent.places.as_mut_ptr(),
+                lent.places.len(),
+                lent.journey.as_mut_ptr(),
+                lent.journey.len(),
+                query.from[0],
+                query.from[1],
+                query.to[0],
+                query.to[1],
+                query.when[0],
+                query.when[1],
+                query.walks,
+                query.mode,
+                answer.as_mut_ptr(),
+                answer.len(),
+            )
+        };
+        let [first, time, stop, round, length] = answer;
+        debug_assert_eq!(number, first, "the number is the answer's first word too");
+        AnswerWords { number, time, stop, round, length }
+    }
+}

@@ -1,0 +1,125 @@
+//! The tables, what a search on them needs, and the search.
+use crate::{
+    answer::Answer,
+    ffi::{Checked, Lent, Room},
+    numbers::words_of,
+    query::Query,
+};
+use std::{error::Error, fmt};
+
+/// Why tables were refused.
+#[derive(Clone, Copy, Debug, PartialEq, Eq, Hash)]
+pub enum TablesError {
+    /// 1: a count, a length or the header is wrong.
+    Shape = 1,
+    /// 2: an index or a listing rule.
+    Listing = 2,
+    /// 3: the moments of a trip.
+    Moments = 3,
+    /// 4: the order of a route's trips.
+    Order = 4,
+    /// 5: a footpath's distance or span.
+    Footpath = 5,
+}
+
+impl TablesError {
+    fn from_number(number: u32) -> TablesError {
+        match number {
+            1 => TablesError::Shape,
+            2 => TablesError::Listing,
+            3 => TablesError::Moments,
+            4 => TablesError::Order,
+            5 => TablesError::Footpath,
+            _ => unreachable!("number {number} is not one for tables"),
+        }
+    }
+
+    /// Document 01's number, 1 to 5.
+    pub const fn number(self) -> u32 {
+        self as u32
+    }
+}
+
+impl fmt::Display for TablesError {
+    fn fmt(&self, f: &mut fmt::Formatter<'_>) -> fmt::Result {
+        f.write_str(words_of(self.number()))
+    }
+}
+
+impl Error for TablesError {}
+
+/// Tables that were checked. They borrow their words, so the words cannot change while a search may read them:
+///
+/// ```compile_fail,E0506
+/// # use kiosk::Tables;
+/// let mut words = vec![0; 20];
+/// let tables = Tables::check(&words);
+/// words[0] = 20;
+/// println!("{tables:?}");
+/// ```
+///
+/// The words may stand in memory that is mapped from a file; then nobody may write to the file meanwhile.
+#[derive(Clone, Copy)]
+pub struct Tables<'a> {
+    checked: Checked<'a>,
+}
+
+impl<'a> Tables<'a> {
+    /// Checks the words, once, so that no search need do it again. The lowest number that applies is given.
+    pub fn check(words: &'a [u32]) -> Result<Tables<'a>, TablesError> {
+        match Checked::new(words) {
+            Ok(checked) => Ok(Tables { checked }),
+            Err(number) => Err(TablesError::from_number(number)),
+        }
+    }
+
+    /// The words that were checked.
+    pub fn words(&self) -> &'a [u32] {
+        self.checked.words()
+    }
+
+    /// Searches. The journey is written to the front of the buffer; where there is none the buffer stays as it was. No journey
+    /// takes more than 17 bytes for each stop of the tables and 60 beside.
+    pub fn solve<'b>(&self, workspace: &mut Workspace, buffer: &'b mut [u8], query: &Query) -> Answer<'b> {
+        let lent = Lent {
+            words: &mut workspace.words,
+            marks: &mut workspace.marks,
+            places: &mut workspace.places,
+            journey: buffer,
+        };
+        let words = self.checked.solve(lent, &query.words());
+        Answer::from_words(words, buffer)
+    }
+}
+
+impl fmt::Debug for Tables<'_> {
+    fn fmt(&self, f: &mut fmt::Formatter<'_>) -> fmt::Result {
+        write!(f, "Tables({} words)", self.words().len())
+    }
+}
+
+/// Where a search works. It is for one search at a time and serves any number of them, each of which clears it first.
+///
+/// It fits all tables of the same size; with others the answer is number 6, and the workspace stays as it was.
+#[derive(Clone, PartialEq, Eq)]
+pub struct Workspace {
+    words: Vec<u32>,
+    marks: Vec<u64>,
+    places: Vec<u32>,
+}
+
+impl Workspace {
+    /// A workspace of the size that the tables ask for.
+    pub fn for_tables(tables: &Tables<'_>) -> Workspace {
+        let Room { words, marks, places } = tables.checked.room();
+        Workspace { words: vec![0; words], marks: vec![0; marks], places: vec![0; places] }
+    }
+}
+
+impl fmt::Debug for Workspace {
+    fn fmt(&self, f: &mut fmt::Formatter<'_>) -> fmt::Result {
+        let Workspace { words, marks, places } = self;
+        let (words, marks, places) = (words.len(), marks.len(), places.len());
+        write!(f, "Workspace({words} words, {marks} marks, {places} places)")
+    }
+}
