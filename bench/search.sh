@@ -3,11 +3,12 @@
 #   search.sh                   three cities: all agree on every query, then a table of times
 #   search.sh fuzz COUNT SEED   COUNT small nasty networks: all agree on every query
 #   search.sh kept              the Rust's kept answers (../oracle): all agree with them
-# OURS=0 leaves ours out. RUST=0 leaves the Rust out, and so does a source that is not at hand (BLAISE, as in ../oracle/build.sh).
+# LTO=1 times the Rust with link-time optimization. OURS=0 leaves ours out. RUST=0 leaves the Rust out, and so does a source that is not at hand (BLAISE, as in ../oracle/build.sh).
 set -eu
 [ -z "${BLAISE:-}" ] || { BLAISE=$(cd "$BLAISE" && pwd); export BLAISE; }
 cd "$(dirname "$0")"
 out=../target/bench with='' profile=release
+[ "${LTO:-0}" = 0 ] || profile=best
 [ $# -eq 0 ] || profile=checked         # compared with overflow checks, timed without
 mkdir -p $out
 if [ "${RUST:-1}" = 0 ]; then
