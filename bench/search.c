@@ -359,10 +359,12 @@ static void print_row(const char *network, const char *what, const char *mode, c
 }
 
 /* Queries in the city, most of them found; all that are drawn are compared. */
+static unsigned drawn;
 static void draw_queries(const network *n, uint32_t when, uint32_t mode, query *q) {
     for (int k = 0, dull = 0; k < QUERIES;) {
         q[k] = city_query(n, when, mode);
         if (refusal(&city, &q[k])) continue;            /* an area without a served stop */
+        drawn++;
         const char *what = differs(&city, &q[k]);
         if (what) report(what, &city, &q[k]);
         k += plain.answer[0] == 0 || ++dull <= QUERIES / 8;
@@ -394,6 +396,22 @@ static void time_city(const char *name, const network *n) {
            4 * QUERIES, found, (double)rides / found, (double)bytes / found, differing);
 }
 
+/* COUNT cities of a size, 256 queries and more in each, compared and not timed: `middle` ones have 60 to 200 stops. */
+static int cities(const char *size, unsigned count, unsigned seed) {
+    static network n;
+    query q[QUERIES];
+    for (unsigned i = 0; i < count; i++) {
+        uint32_t wide = 6 + (seed + i) % 15;
+        grid middle = { wide, 10, 3 * wide, 8, 12, 6, 3 }, limit = { 64, 64, 1024, 16, 16, 1024, 16 };
+        make_city(&n, size[0] == 'l' ? limit : middle, seed + i);
+        flatten(&n, &city);
+        make_ready(&city, MOST_BYTES);
+        for (uint32_t mode = 0; mode < 2; mode++) for (uint32_t when = 0; when < 2; when++) draw_queries(&n, when, mode, q);
+    }
+    printf("%u %s cities, %u queries: %u differ\n", count, size, drawn, differing);
+    return differing > 0;
+}
+
 static int times(void) {
     static const struct { const char *name; grid size; } cities[] = {
         { "small", { 4, 3, 6, 4, 4, 2, 2 } }, { "middle", { 20, 10, 60, 8, 12, 20, 8 } }, { "limit", { 64, 64, 1024, 16, 16, 1024, 16 } } };
@@ -419,6 +437,7 @@ int main(int argc, char **argv) {
     if (argc == 1) return times();
     if (argc == 4 && strcmp(argv[1], "fuzz") == 0) return fuzz(strtoul(argv[2], NULL, 10), strtoul(argv[3], NULL, 10));
     if (argc == 4 && strcmp(argv[1], "kept") == 0) return kept(argv[2], argv[3]);
-    fprintf(stderr, "search | search fuzz COUNT SEED | search kept CASES ANSWERS\n");
+    if (argc == 5 && strcmp(argv[1], "cities") == 0) return cities(argv[2], strtoul(argv[3], NULL, 10), strtoul(argv[4], NULL, 10));
+    fprintf(stderr, "search | search fuzz COUNT SEED | search cities middle|limit COUNT SEED | search kept CASES ANSWERS\n");
     return 2;
 }

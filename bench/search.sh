@@ -2,6 +2,7 @@
 # The search in three writings, the Rust, plain C and ours: builds them, compares them and times them.
 #   search.sh                   three cities: all agree on every query, then a table of times
 #   search.sh fuzz COUNT SEED   COUNT small nasty networks: all agree on every query
+#   search.sh cities middle|limit COUNT SEED   COUNT cities of 60 to 200 stops, or at the limits: all agree on 256 queries and more in each
 #   search.sh kept              the Rust's kept answers (../oracle): all agree with them
 # LTO=1 times the Rust with link-time optimization. OURS=0 leaves ours out. RUST=0 leaves the Rust out, and so does a source that is not at hand (BLAISE, as in ../oracle/build.sh).
 set -eu

@@ -23,13 +23,14 @@ module _ (n : Net) (q : Query) (w y p v z u : List ℕ) where
   unfolding holds
   ended-same a b =
       let e : holds (n .stops) (n .routes) w y p ≡ holds (n .stops) (n .routes) v z u = a .ends ∙ sym (b .ends) in
-      let words = same-words (n .stops) (n .routes) w y v z (a .fits) (b .fits) (a .tidy) (b .tidy) (ap (λ (x : Workspace). x .work) e) in
-      (words .0,
-      words .1,
-      sym (take-append-drop (n .stops) p)
-      ∙ ap (λ (x : List ℕ). x ++ drop (n .stops) p) (ap (λ (x : Workspace). x .origins) e)
-      ∙ ap (λ (x : List ℕ). take (n .stops) u ++ x) (ap (λ (x : Workspace). x .goals) e)
-      ∙ take-append-drop (n .stops) u)
+      let words = same-words (n .stops) (n .routes) w y v z (a .fits) (b .fits) (a .tidy) (b .tidy) (ap (λ (x : Workspace). x .work) e) in (
+        words .0,
+        words .1,
+        sym (take-append-drop (n .stops) p)
+            ∙ ap (λ (x : List ℕ). x ++ drop (n .stops) p) (ap (λ (x : Workspace). x .origins) e)
+            ∙ ap (λ (x : List ℕ). take (n .stops) u ++ x) (ap (λ (x : Workspace). x .goals) e)
+            ∙ take-append-drop (n .stops) u,
+      )
 
   left-same : {w₀ y₀ p₀ : List ℕ} (k : ℕ) → WorkspaceLeft n q k w₀ y₀ p₀ w y p → WorkspaceLeft n q k w₀ y₀ p₀ v z u
       → (w ≡ v) × (y ≡ z) × (p ≡ u)

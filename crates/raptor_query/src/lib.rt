@@ -124,7 +124,13 @@ pub struct Sizes {
 }
 
 // Writes the stops of the areas that a query names: from's in the first half of the places, to's in the second.
-pub fn write_places(tables: &[u32], places: &mut [u32], n: u32, from: Location, to: Location) -> Sizes
+pub fn write_places(
+    tables: &[u32],
+    places: &mut [u32],
+    n: u32,
+    from: Location,
+    to: Location,
+) -> Sizes
     requires { ⌜ Accepted (now tables) ⌝ }
     requires { ⌜ n ≡ netOf (now tables) .stops ⌝ }
     requires { ⌜ existing (netOf (now tables)) from ≡ true ⌝ }

@@ -215,7 +215,16 @@ fn answer(tables: &[u32], q: Query, buffer: usize, fault: u32) {
     let mut marks = [7u64; 32];
     let mut places = [7u32; 128];
     let mut journey = [7u8; 4096];
-    cut(tables, &mut words, &mut marks, &mut places, &mut journey, q, buffer, fault);
+    cut(
+        tables,
+        &mut words,
+        &mut marks,
+        &mut places,
+        &mut journey,
+        q,
+        buffer,
+        fault,
+    );
 }
 
 fn bytes_of(x: u32) -> usize {

@@ -2,7 +2,6 @@
 use borrow.Author.Needs.{needs}
 use Rattle.raptor_query.proofs.Places.{half-length, first-half, second-half, halves}
 use Rattle.raptor_query.proofs.Places.{halves}
-
 use Rattle.raptor_query.proofs.write_places.Statement.{statement}
 use Rattle.raptor_query.proofs.write_places.Tie as tie
 
@@ -31,10 +30,13 @@ part-write-place-end c = search needs
 write-place-requires-2 : tie.Need-write-place-requires-2
 write-place-requires-2 c κs =
     let start = c .before .before .before .before .before .before .before in
-    let first = c .before .before .before .write-place in
-    (search needs,
-    (start .pre .1 .1 .1 .0,
-    second-half (start .args .n) (start .args .places .now) (start .pre .1 .1 .1 .1) (first .last .1 .0) (search needs) (start .pre .1 .0)))
+    let first = c .before .before .before .write-place in (
+      search needs,
+      (
+        start .pre .1 .1 .1 .0,
+        second-half (start .args .n) (start .args .places .now) (start .pre .1 .1 .1 .1) (first .last .1 .0) (search needs) (start .pre .1 .0),
+      ),
+    )
 
 same-length : tie.Need-same-length
 same-length c = search needs
@@ -42,10 +44,11 @@ same-length c = search needs
 returns : tie.Need-returns
 returns c =
     let start = c .before .before .before .before .before .before .before .before .before .before in
-    let first = c .before .before .before .before .before .before .write-place in
-    (halves (start .args .n) (start .args .places .now) (start .pre .1 .1 .1 .1) (first .last .1 .0) (search needs) (first .ensures .0)
-    (c .before .before .write-place2 .ensures .0),
-    (search needs, search needs))
+    let first = c .before .before .before .before .before .before .write-place in (
+      halves (start .args .n) (start .args .places .now) (start .pre .1 .1 .1 .1) (first .last .1 .0) (search needs) (first .ensures .0)
+          (c .before .before .write-place2 .ensures .0),
+      (search needs, search needs),
+    )
 
 pub write-places-spec : {M : Type 1} → statement M
 write-places-spec =

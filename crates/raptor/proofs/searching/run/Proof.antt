@@ -15,9 +15,10 @@ reply-requires : tie.Need-reply-requires
 reply-requires c κs =
     let start = c .before .before .before .before .before .before .before .before .before .before .before .before .before .before .before .before .before .before in
     let found = c .before .before .before .before .before .before .before .before .place-and-search in
-    let facing = c .before .before .before .before .before .before .before .before .before .before .before .before .direction-of in
-    (sized-words (found .ensures .1 .1 .0),
-    is-chosen (start .pre .0) (start .args .q) (start .pre .1 .1 .1) (found .last .1 .0) (found .last .1 .1 .0) (found .ensures .0) (facing .ensures))
+    let facing = c .before .before .before .before .before .before .before .before .before .before .before .before .direction-of in (
+      sized-words (found .ensures .1 .1 .0),
+      is-chosen (start .pre .0) (start .args .q) (start .pre .1 .1 .1) (found .last .1 .0) (found .last .1 .1 .0) (found .ensures .0) (facing .ensures),
+    )
 
 same-length : tie.Need-same-length
 same-length c = search needs
