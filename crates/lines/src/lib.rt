@@ -32,7 +32,7 @@ pub fn new() -> Line
 }
 
 // The value of an open token with one more byte: ten times the value and the digit; a letter stands for itself.
-fn longer(value: u64, b: u8) -> u64
+pub fn longer(value: u64, b: u8) -> u64
     requires { ⌜ value ≤ 4294967296 ⌝ }
     ensures { λ r. ⌜ r ≤ 4294967296 ⌝ }
 {

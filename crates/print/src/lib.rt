@@ -60,7 +60,7 @@ pub fn leg(g: Leg, none: &[u8]) {
 }
 
 // How many bytes a leg takes.
-fn size(g: Leg) -> usize
+pub fn size(g: Leg) -> usize
     ensures { λ z. ⌜ 1 ≤ z ⌝ }
     ensures { λ z. ⌜ z ≤ 21 ⌝ }
 {

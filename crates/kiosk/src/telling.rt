@@ -1,0 +1,179 @@
+// An answer in words: the journey, leg by leg, or the number of a refusal and what it means.
+use super::moment;
+use asking::Told;
+use journey::LegRead;
+use model::Answer;
+use model::Leg;
+use model::LegType;
+use shared::Time;
+ghost use Prim.Native.Nat.{_≤_};
+
+// A stop and when one is there.
+fn print_stop(stop: u32, at: Time) {
+    print::text(b"stop ");
+    print::number(stop as u64);
+    print::text(b" at ");
+    moment::print_moment(at.0);
+}
+
+// Between which stops a leg goes, and when.
+fn print_ends(g: Leg) {
+    print::text(b" from ");
+    print_stop(g.from, g.departure);
+    print::text(b" to ");
+    print_stop(g.to, g.arrival);
+    print::text(b"\n");
+}
+
+fn print_leg(g: Leg) {
+    let kind = g.kind;
+    match kind {
+        LegType::Transit(trip) => {
+            print::text(b"ride trip ");
+            print::number(trip as u64);
+        }
+        LegType::Transfer => print::text(b"transfer"),
+        LegType::Walk => print::text(b"walk"),
+    }
+    print_ends(g);
+}
+
+// 1 for a ride, 0 for a footpath.
+fn rides_of(g: Leg) -> usize
+    ensures { λ r. ⌜ r ≤ 1 ⌝ }
+{
+    let kind = g.kind;
+    match kind {
+        LegType::Transit(_) => 1,
+        LegType::Transfer => 0,
+        LegType::Walk => 0,
+    }
+}
+
+fn print_legs(bytes: &[u8]) {
+    let mut at = 0;
+    while at < bytes.len() {
+        let next = journey::read_leg(bytes, at);
+        let LegRead::Whole(g) = next else {
+            return;
+        };
+        print_leg(g);
+        at += print::size(g);
+    }
+}
+
+// How many rides the legs are.
+fn count_rides(bytes: &[u8]) -> usize {
+    let mut rides = 0;
+    let mut at = 0;
+    while at < bytes.len() {
+        let next = journey::read_leg(bytes, at);
+        let LegRead::Whole(g) = next else {
+            return rides;
+        };
+        rides += rides_of(g);
+        at += print::size(g);
+    }
+    rides
+}
+
+// The last leg, `first` where there is no other.
+fn last_leg(bytes: &[u8], first: Leg) -> Leg {
+    let mut last = first;
+    let mut at = 0;
+    while at < bytes.len() {
+        let next = journey::read_leg(bytes, at);
+        let LegRead::Whole(g) = next else {
+            return last;
+        };
+        last = g;
+        at += print::size(g);
+    }
+    last
+}
+
+fn print_rides(rides: usize) {
+    print::number(rides as u64);
+    if rides == 1 {
+        print::text(b" ride");
+        return;
+    }
+    print::text(b" rides");
+}
+
+// A journey: first its two ends, then each leg.
+fn print_journey(bytes: &[u8], round: u32) {
+    let next = journey::read_leg(bytes, 0);
+    let LegRead::Whole(first) = next else {
+        return;
+    };
+    let last = last_leg(bytes, first);
+    print::text(b"Leave ");
+    print_stop(first.from, first.departure);
+    print::text(b", arrive at ");
+    print_stop(last.to, last.arrival);
+    print::text(b": ");
+    print_rides(count_rides(bytes));
+    print::text(b", round ");
+    print::number(round as u64);
+    print::text(b".\n");
+    print_legs(bytes);
+}
+
+// The journey that the buffer's first `length` bytes are.
+fn print_found(journey: &[u8], length: usize, round: u32) {
+    if journey.len() < length {
+        return;
+    }
+    print_journey(&journey[..length], round);
+}
+
+// What a refusal means, in document 01's words.
+fn print_refusal(number: u32) {
+    print::number(number as u64);
+    match number {
+        1 => print::text(
+            b": a count over its limit, a route without a stop, a slice of wrong length\n",
+        ),
+        2 => print::text(b": an index out of range, or a list breaking a listing rule\n"),
+        3 => print::text(
+            b": a timetable moment outside 1 to 1,000,000; arrival after departure at a position; departure after the next position's arrival\n",
+        ),
+        4 => print::text(b": trips of a route out of order\n"),
+        5 => print::text(
+            b": a distance that is NaN, below 0 or above 100,000; a stated transfer span above 86,400\n",
+        ),
+        6 => print::text(b": a workspace slice of wrong length\n"),
+        7 => print::text(b": a stop or area that does not exist\n"),
+        8 => print::text(b": query moment outside 1 to 1,000,000\n"),
+        9 => print::text(b": an area without a served stop\n"),
+        10 => print::text(b": no route found\n"),
+        _ => print::text(b": a chosen stop but no leg\n"),
+    }
+}
+
+// The answer; the journey stands in `journey`.
+pub fn tell(journey: &[u8], told: Told) {
+    let Told::Answer(a) = told else {
+        print::text(
+            b"these tables need more room than this program has: link the library (see README)\n",
+        );
+        return;
+    };
+    match a {
+        Answer::Found {
+            time: _,
+            stop: _,
+            round,
+            length,
+        } => print_found(journey, length, round),
+        Answer::Refused(number) => print_refusal(number),
+        Answer::NoRouteFound => print_refusal(10),
+        Answer::FailedToBuildRoute => print_refusal(11),
+        Answer::TooLong(length) => {
+            print::text(b"12: journey longer than its buffer: it takes ");
+            print::number(length as u64);
+            print::text(b" bytes\n");
+        }
+    }
+}
