@@ -31,6 +31,10 @@ extern "C" {
         answer: *mut u32,
         answer_len: usize,
     ) -> u32;
+
+    fn kiosk_read(journey: *const u8, journey_len: usize, told: *mut u64, told_len: usize) -> u32;
+
+    fn kiosk_leg(journey: *const u8, journey_len: usize, at: usize, leg: *mut u32, leg_len: usize) -> u32;
 }
 
 /// The lengths that tables ask of a workspace.
@@ -127,4 +131,25 @@ impl<'a> Checked<'a> {
         debug_assert_eq!(number, first, "the number is the answer's first word too");
         AnswerWords { number, time, stop, round, length }
     }
+}
+
+/// How many legs journey bytes are, or where the first bad leg begins.
+pub(crate) fn read_journey(bytes: &[u8]) -> Result<usize, usize> {
+    let mut told = [0; 1];
+    // SAFETY: each pointer goes with the length of its slice; the bytes are only read, and the word of `told` is ours.
+    let number = unsafe { kiosk_read(bytes.as_ptr(), bytes.len(), told.as_mut_ptr(), told.len()) };
+    let told = told[0] as usize; // no more than the bytes that there are
+    if number == 0 {
+        Ok(told)
+    } else {
+        Err(told)
+    }
+}
+
+/// The six words of the leg that starts at an offset, and how many bytes it takes; None where there is no whole leg.
+pub(crate) fn read_leg(bytes: &[u8], at: usize) -> Option<([u32; 6], usize)> {
+    let mut leg = [0; 6];
+    // SAFETY: each pointer goes with the length of its slice; the bytes are only read, and the words of `leg` are ours. Any offset may be asked.
+    let size = unsafe { kiosk_leg(bytes.as_ptr(), bytes.len(), at, leg.as_mut_ptr(), leg.len()) };
+    (size > 13).then_some((leg, size as usize))
 }

@@ -1,6 +1,9 @@
 //! Journey bytes and the legs in them: one byte of kind, then a body whose length the kind fixes.
-use crate::numbers::words_of;
-use std::{array, error::Error, fmt, iter::FusedIterator};
+use crate::{
+    ffi::{read_journey, read_leg},
+    numbers::words_of,
+};
+use std::{error::Error, fmt, iter::FusedIterator};
 
 /// What a leg is.
 #[derive(Clone, Copy, Debug, PartialEq, Eq, Hash)]
@@ -43,30 +46,15 @@ impl fmt::Display for Leg {
     }
 }
 
-/// The first fields of a body, low byte first, and the bytes after them.
-fn split_fields<const COUNT: usize>(body: &[u8]) -> Option<([u32; COUNT], &[u8])> {
-    if body.len() < 4 * COUNT {
-        return None;
-    }
-    let (fields, rest) = body.split_at(4 * COUNT);
-    let field = |i: usize| u32::from_le_bytes(fields[4 * i..][..4].try_into().expect("4 bytes"));
-    Some((array::from_fn(field), rest))
-}
-
-/// The first leg and the bytes after it; None where there is no whole leg.
-fn split_leg(bytes: &[u8]) -> Option<(Leg, &[u8])> {
-    let (&kind, body) = bytes.split_first()?;
-    if kind == 1 {
-        let ([from, to, trip, departure, arrival], rest) = split_fields(body)?;
-        return Some((Leg { from, to, departure, arrival, kind: LegKind::Ride { trip } }, rest));
-    }
+/// The leg that starts at an offset and where it ends; None where there is no whole leg.
+fn leg_at(bytes: &[u8], at: usize) -> Option<(Leg, usize)> {
+    let ([kind, from, to, trip, departure, arrival], size) = read_leg(bytes, at)?;
     let kind = match kind {
+        1 => LegKind::Ride { trip },
         2 => LegKind::Transfer,
-        3 => LegKind::Walk,
-        _ => return None,
+        _ => LegKind::Walk,
     };
-    let ([from, to, departure, arrival], rest) = split_fields(body)?;
-    Some((Leg { from, to, departure, arrival, kind }, rest))
+    Some((Leg { from, to, departure, arrival, kind }, at + size))
 }
 
 /// Journey bytes that were read: whole legs, in riding order. Two journeys are equal where their legs are.
@@ -78,14 +66,10 @@ pub struct Journey<'b> {
 impl<'b> Journey<'b> {
     /// Reads any bytes. Empty bytes are zero legs. What the values of the fields mean is not asked; only the search promises that.
     pub fn read(bytes: &'b [u8]) -> Result<Journey<'b>, BadJourney> {
-        let mut rest = bytes;
-        while !rest.is_empty() {
-            match split_leg(rest) {
-                Some((_, after)) => rest = after,
-                None => return Err(BadJourney { offset: bytes.len() - rest.len() }),
-            }
+        match read_journey(bytes) {
+            Ok(_) => Ok(Journey { bytes }),
+            Err(offset) => Err(BadJourney { offset }),
         }
-        Ok(Journey { bytes })
     }
 
     /// The bytes, as they were read.
@@ -95,7 +79,7 @@ impl<'b> Journey<'b> {
 
     /// The legs, in riding order.
     pub fn legs(&self) -> Legs<'b> {
-        Legs { rest: self.bytes }
+        Legs { bytes: self.bytes, at: 0 }
     }
 }
 
@@ -127,15 +111,16 @@ impl<'b> IntoIterator for &Journey<'b> {
 #[derive(Clone, Debug)]
 pub struct Legs<'b> {
     /// whole legs, since they come from a journey
-    rest: &'b [u8],
+    bytes: &'b [u8],
+    at: usize,
 }
 
 impl Iterator for Legs<'_> {
     type Item = Leg;
 
     fn next(&mut self) -> Option<Leg> {
-        let (leg, rest) = split_leg(self.rest)?;
-        self.rest = rest;
+        let (leg, end) = leg_at(self.bytes, self.at)?;
+        self.at = end;
         Some(leg)
     }
 }

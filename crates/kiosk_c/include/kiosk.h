@@ -23,6 +23,7 @@ extern "C" {
    10  no journey
    11  a chosen stop but no leg
    12  the journey is longer than its buffer
+   13  journey bytes that are no legs
    The lowest that applies is given. */
 
 /* Checks the tables: 0, or 1 to 5. The tables are one slice: a header of 20 words, then 19 sections. */
@@ -30,7 +31,7 @@ uint32_t kiosk_check(const uint32_t *tables, size_t tables_len);
 
 /* The three lengths that a search on these tables asks for: `room` takes words, marks, places, in this order. 0, or the number of the
    fault. */
-uint32_t kiosk_room(const uint32_t *tables, size_t tables_len, uint32_t *room, size_t room_len);      /* words, marks, places */
+uint32_t kiosk_room(const uint32_t *tables, size_t tables_len, uint32_t *room, size_t room_len);
 
 /* Checks everything, then searches. Gives the number, which is also the first word of the answer.
 
@@ -49,6 +50,15 @@ uint32_t kiosk_solve_checked(const uint32_t *tables, size_t tables_len, uint32_t
                              uint32_t *places, size_t places_len, uint8_t *journey, size_t journey_len,
                              uint32_t from_kind, uint32_t from, uint32_t to_kind, uint32_t to, uint32_t when, uint32_t moment,
                              uint32_t walks, uint32_t mode, uint32_t *answer, size_t answer_len);
+
+/* Reads journey bytes. 0: they are legs, and told[0] is how many; 13: they are not, and told[0] is the offset of the bad leg's first byte;
+   6: told_len is 0, and nothing is told. */
+uint32_t kiosk_read(const uint8_t *journey, size_t journey_len, uint64_t *told, size_t told_len);
+
+/* The leg that starts at the byte `at`. Gives how many bytes it takes, 21 for a ride and 17 for a footpath, and writes six words: kind (1 ride,
+   2 transfer, 3 walk), from, to, trip (4294967295 for a footpath), departure, arrival. Or 0 where no byte is left there, 13 for an unknown kind
+   or a cut body, 6 where leg_len is below 6; then nothing is written. */
+uint32_t kiosk_leg(const uint8_t *journey, size_t journey_len, size_t at, uint32_t *leg, size_t leg_len);
 
 #ifdef __cplusplus
 }

@@ -2,3 +2,4 @@
 pub mod Asked
 pub mod Told
 pub mod Rooms
+pub mod Reading

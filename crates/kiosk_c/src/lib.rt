@@ -16,6 +16,8 @@ use model::Walks;
 use raptor::Needed;
 use shared::Time;
 
+pub mod legs; // legs.rt: journey bytes, read
+
 // 0 where the tables are accepted, else the lowest number, 1 to 5, of which they have a fault.
 #[no_mangle]
 pub extern "C" fn kiosk_check(tables: &[u32]) -> u32

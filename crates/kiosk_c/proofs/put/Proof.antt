@@ -8,13 +8,13 @@ slice-write-answer : tie.Need-slice-write-answer
 slice-write-answer c = search needs
 
 slice-write-answer-2 : tie.Need-slice-write-answer-2
-slice-write-answer-2 c = search (needs, five-in, five-stays)
+slice-write-answer-2 c = search (needs, five-in)
 
 slice-write-answer-3 : tie.Need-slice-write-answer-3
-slice-write-answer-3 c = search (needs, five-in, five-stays)
+slice-write-answer-3 c = search (needs, five-in)
 
 slice-write-answer-4 : tie.Need-slice-write-answer-4
-slice-write-answer-4 c = search (needs, five-in, five-stays)
+slice-write-answer-4 c = search (needs, five-in)
 
 slice-write-answer-5 : tie.Need-slice-write-answer-5
 slice-write-answer-5 c = search needs

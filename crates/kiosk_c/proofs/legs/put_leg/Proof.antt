@@ -1,0 +1,42 @@
+-- `kiosk_c::legs::put_leg` meets its contract: six words, one after the other.
+use borrow.Author.Needs.{needs}
+use Rattle.kiosk_c.proofs.Reading.{six-in, six-stays, six}
+use Rattle.kiosk_c.proofs.legs.put_leg.Statement.{statement}
+use Rattle.kiosk_c.proofs.legs.put_leg.Tie as tie
+
+slice-write-leg : tie.Need-slice-write-leg
+slice-write-leg c = search needs
+
+slice-write-leg-2 : tie.Need-slice-write-leg-2
+slice-write-leg-2 c = search (needs, six-in)
+
+slice-write-leg-3 : tie.Need-slice-write-leg-3
+slice-write-leg-3 c = search (needs, six-in)
+
+slice-write-leg-4 : tie.Need-slice-write-leg-4
+slice-write-leg-4 c = search (needs, six-in)
+
+slice-write-leg-5 : tie.Need-slice-write-leg-5
+slice-write-leg-5 c = search (needs, six-in)
+
+slice-write-leg-6 : tie.Need-slice-write-leg-6
+slice-write-leg-6 c = search needs
+
+same-length : tie.Need-same-length
+same-length c = search needs
+
+returns : tie.Need-returns
+returns c = search (needs, six)
+
+pub put-leg-spec : {M : Type 1} → statement M
+put-leg-spec =
+    tie.close
+    (tie.spec
+    slice-write-leg
+    slice-write-leg-2
+    slice-write-leg-3
+    slice-write-leg-4
+    slice-write-leg-5
+    slice-write-leg-6
+    same-length
+    returns)
