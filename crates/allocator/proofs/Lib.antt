@@ -1,4 +1,4 @@
--- Laws that belong to no one function. A caller cites Visited, Viewed, Keeping, Links and Same.
+-- Laws that belong to no one function. A caller cites Visited, Keeping, Links, Same and Roomy.
 pub mod Sections
 pub mod Tabulated
 pub mod Loops
@@ -15,7 +15,6 @@ pub mod DoesParent
 pub mod Operated
 pub mod Cleared
 pub mod Visited
-pub mod Viewed
 pub mod Keeping
 pub mod Links
 pub mod Same

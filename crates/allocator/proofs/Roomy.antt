@@ -15,6 +15,3 @@ module _ {s r : ℕ} {w m : List ℕ} where
 
   pub sized-words : Sized s r w m → length w ≡ wordsRoom s r
   sized-words z = z .words .words-length
-
-  pub sized-marks : Sized s r w m → length m ≡ marksRoom s r
-  sized-marks z = z .marks .marks-length

@@ -45,14 +45,6 @@ module _ {A : Type 0} (f : ℕ → A) where
       tab-at n k v h ∙ e k h ∙ sym (getD-replicate n k v v h))
 
 module _ {A : Type 0} (f g : ℕ → A) (n : ℕ) where
-  pub tab-same : A → ((k : ℕ) → k < n → g k ≡ f k) → tab g n 0 ≡ tab f n 0
-  tab-same d e =
-      let long = tab-length g n 0 in
-      ext-getD d (tab g n 0) (tab f n 0) (long ∙ sym (tab-length f n 0))
-      (λ k l.
-      let h : k < n = omega arith in
-      tab-at g n k d h ∙ e k h ∙ sym (tab-at f n k d h))
-
   pub tab-set : (i : ℕ) (v : A) → i < n → g i ≡ v → ((k : ℕ) → k < n → (k ≡ i → ⊥) → g k ≡ f k)
       → tab g n 0 ≡ set (tab f n 0) i v
   tab-set i v b here e =

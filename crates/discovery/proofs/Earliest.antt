@@ -11,7 +11,7 @@ use Rattle.model.specs.Lists.{upto}
 use Rattle.model.specs.Tables.{Net}
 use Rattle.model.specs.Rides.{firstTrip, catch}
 use Rattle.discovery.specs.declared.Trip.the-variants.{At, Nothing}
-use Rattle.discovery.specs.Trips.{tripIs, notBefore, firstNotBefore}
+use Rattle.discovery.specs.Trips.{tripIn, notBefore, firstNotBefore}
 use Rattle.discovery.proofs.Firsts.{first-fails, first-passes}
 
 module _ (n : Net) (r p x : ℕ) where
@@ -34,16 +34,16 @@ module _ (n : Net) (r p x : ℕ) where
       rw (b i (omega arith) (omega arith)) (first-none k (suc i) (λ j h g. b j (omega arith) (omega arith)))
 
   module _ {i m : ℕ} (e : i ≡ firstNotBefore n r p x) (f : m ≡ n .trips r) where
-    pub earliest-some : {v : ℕ} → i < m → v ≡ n .tripAt r i → At v ≡ tripIs (catch Departure n r p x)
-    unfolding firstNotBefore tripIs catch
-    earliest-some l g =
+    pub earliest-some : i < m → tripIn n r (At i) ≡ catch Departure n r p x
+    unfolding firstNotBefore tripIn catch
+    earliest-some l =
         let t = notBefore n r p x in
         let at = first-some (n .trips r) 0 (first t (n .trips r) 0) (omega arith) (omega arith)
         (first-fails t (n .trips r) 0) (first-passes t (n .trips r) 0 (omega arith)) in
-        ap At (g ∙ ap (n .tripAt r) e) ∙ ap tripIs (sym at)
+        ap (λ (j : ℕ). some (n .tripAt r j)) e ∙ sym at
 
-    pub earliest-none : m ≤ i → Nothing ≡ tripIs (catch Departure n r p x)
-    unfolding firstNotBefore tripIs catch
+    pub earliest-none : m ≤ i → tripIn n r Nothing ≡ catch Departure n r p x
+    unfolding firstNotBefore tripIn catch
     earliest-none l =
         let t = notBefore n r p x in
-        ap tripIs (sym (first-none (n .trips r) 0 (λ j h g. first-fails t (n .trips r) 0 j h (omega arith))))
+        sym (first-none (n .trips r) 0 (λ j h g. first-fails t (n .trips r) 0 j h (omega arith)))

@@ -1,4 +1,5 @@
--- The last trip in list order is the one just before the first place whose test passes, where arrivals are sorted.
+-- The last trip in list order that arrives not after x is the one just before the first place that arrives not before x + 1, where arrivals
+-- are sorted.
 use Prim.Native.Nat.{ℕ, zero, suc, _+_, _-_, _≤_, _<_}
 use mathlib.Core.Path.{_≡_, refl, sym, ap, _∙_}
 use mathlib.Core.Bool.{Bool, true, false, cond}
@@ -6,7 +7,7 @@ use mathlib.Core.Option.{Option, none, some}
 use mathlib.Core.List.{List, _∷_}
 use native.Mathlib.Omega.{arith}
 use native.Mathlib.Decide.{decLt}
-use borrow.Author.Tests.{lt-leb, le-leb, ltb-true, ltb-false}
+use borrow.Author.Tests.{lt-leb, le-leb, leb-true, leb-false}
 use Rattle.base.specs.Choice.{split}
 use Rattle.base.specs.First.{first}
 use Rattle.base.specs.Halving.{Rising}
@@ -16,27 +17,30 @@ use Rattle.model.specs.Tables.{Net}
 use Rattle.model.specs.Rides.{lastTrip, catch}
 use Rattle.repository.specs.Accepted.{Ordered}
 use Rattle.discovery.specs.declared.Trip.the-variants.{At, Nothing}
-use Rattle.discovery.specs.Trips.{tripIs, after, firstAfter}
+use Rattle.discovery.specs.Trips.{tripIn, notBefore, firstNotBefore}
 use Rattle.discovery.proofs.Firsts.{first-fails, first-passes, first-most}
-use Rattle.discovery.proofs.Tests.{after-rising}
+use Rattle.discovery.proofs.Tests.{not-before-rising}
 
 module _ (n : Net) (r p x : ℕ) where
+  -- the trip at place i arrives after x
+  abbrev after : ℕ → Bool
+  after = notBefore n r p (x + 1)
+
   -- a trip that arrives after the label is passed over, another is kept
-  last-over : (i : ℕ) (l : List ℕ) (o : Option ℕ) → after n r p x i ≡ true
-      → lastTrip n r p x (i ∷ l) o ≡ lastTrip n r p x l o
-  unfolding lastTrip after
+  last-over : (i : ℕ) (l : List ℕ) (o : Option ℕ) → after i ≡ true → lastTrip n r p x (i ∷ l) o ≡ lastTrip n r p x l o
+  unfolding lastTrip notBefore
   last-over i l o e =
       ap (λ (b : Bool). lastTrip n r p x l (cond b (some (n .tripAt r i)) o))
-      (lt-leb (n .arrival (n .tripAt r i) p) x (ltb-true x _ e))
+      (lt-leb (n .arrival (n .tripAt r i) p) x (omega (arith, leb-true (x + 1) _ e)))
 
-  last-kept : (i : ℕ) (l : List ℕ) (o : Option ℕ) → after n r p x i ≡ false
+  last-kept : (i : ℕ) (l : List ℕ) (o : Option ℕ) → after i ≡ false
       → lastTrip n r p x (i ∷ l) o ≡ lastTrip n r p x l (some (n .tripAt r i))
-  unfolding lastTrip after
+  unfolding lastTrip notBefore
   last-kept i l o e =
       ap (λ (b : Bool). lastTrip n r p x l (cond b (some (n .tripAt r i)) o))
-      (le-leb (n .arrival (n .tripAt r i) p) x (ltb-false x _ e))
+      (le-leb (n .arrival (n .tripAt r i) p) x (omega (arith, leb-false (x + 1) _ e)))
 
-  last-same : (k i : ℕ) (o : Option ℕ) → ((j : ℕ) → i ≤ j → j < i + k → after n r p x j ≡ true)
+  last-same : (k i : ℕ) (o : Option ℕ) → ((j : ℕ) → i ≤ j → j < i + k → after j ≡ true)
       → lastTrip n r p x (upto k i) o ≡ o
   unfolding lastTrip upto
   last-same zero i o b = refl
@@ -44,8 +48,8 @@ module _ (n : Net) (r p x : ℕ) where
       last-over i (upto k (suc i)) o (b i (omega arith) (omega arith))
       ∙ last-same k (suc i) o (λ j h g. b j (omega arith) (omega arith))
 
-  last-some : (k i m : ℕ) (o : Option ℕ) → i ≤ m → m < i + k → ((j : ℕ) → i ≤ j → j ≤ m → after n r p x j ≡ false)
-      → ((j : ℕ) → m < j → j < i + k → after n r p x j ≡ true) → lastTrip n r p x (upto k i) o ≡ some (n .tripAt r m)
+  last-some : (k i m : ℕ) (o : Option ℕ) → i ≤ m → m < i + k → ((j : ℕ) → i ≤ j → j ≤ m → after j ≡ false)
+      → ((j : ℕ) → m < j → j < i + k → after j ≡ true) → lastTrip n r p x (upto k i) o ≡ some (n .tripAt r m)
   unfolding lastTrip upto
   last-some zero i m o l g b a = absurd (omega arith)
   last-some (suc k) i m o l g b a =
@@ -62,37 +66,33 @@ module _ (n : Net) (r p x : ℕ) where
       ]
 
   -- where one passes, all after it pass
-  pass-on : Rising (after n r p x) (n .trips r) → (i j : ℕ) → i ≤ j → j < n .trips r → after n r p x i ≡ true
-      → after n r p x j ≡ true
+  pass-on : Rising after (n .trips r) → (i j : ℕ) → i ≤ j → j < n .trips r → after i ≡ true → after j ≡ true
   pass-on up i j l g e =
-      split (after n r p x j) (λ f. f)
+      split (after j) (λ f. f)
       (λ f. let z : true ≡ false = sym e ∙ up .rising i j l g f in let y : _≡_ {A = ℕ} 0 1 = cc in absurd (omega arith))
 
-  module _ (o : Ordered n) (hr : r < n .routes) (hp : p < n .positions r) {i : ℕ} (e : i ≡ firstAfter n r p x) where
+  module _ (o : Ordered n) (hr : r < n .routes) (hp : p < n .positions r) {i : ℕ} (e : i ≡ firstNotBefore n r p (x + 1)) where
     -- from the first place whose test passes on, all pass
-    passes : (j : ℕ) → i ≤ j → j < n .trips r → after n r p x j ≡ true
-    unfolding firstAfter
+    passes : (j : ℕ) → i ≤ j → j < n .trips r → after j ≡ true
+    unfolding firstNotBefore
     passes j l g =
-        let t = after n r p x in
-        let at : t (first t (n .trips r) 0) ≡ true = first-passes t (n .trips r) 0 (omega arith) in
-        pass-on (after-rising n r p x o hr hp) (first t (n .trips r) 0) j (omega arith) g at
+        let at : after (first after (n .trips r) 0) ≡ true = first-passes after (n .trips r) 0 (omega arith) in
+        pass-on (not-before-rising n r p (x + 1) o hr hp) (first after (n .trips r) 0) j (omega arith) g at
 
-    fails : (j : ℕ) → j < i → after n r p x j ≡ false
-    unfolding firstAfter
-    fails j l = first-fails (after n r p x) (n .trips r) 0 j (omega arith) (omega arith)
+    fails : (j : ℕ) → j < i → after j ≡ false
+    unfolding firstNotBefore
+    fails j l = first-fails after (n .trips r) 0 j (omega arith) (omega arith)
 
-    pub latest-none : i ≡ 0 → Nothing ≡ tripIs (catch Arrival n r p x)
-    unfolding tripIs catch
-    latest-none z = ap tripIs (sym (last-same (n .trips r) 0 none (λ j h g. passes j (omega arith) (omega arith))))
+    pub latest-none : i ≡ 0 → tripIn n r Nothing ≡ catch Arrival n r p x
+    unfolding tripIn catch
+    latest-none z = sym (last-same (n .trips r) 0 none (λ j h g. passes j (omega arith) (omega arith)))
 
     pub latest-in : (i ≡ 0 → ⊥) → i - 1 < n .trips r
-    unfolding firstAfter
-    latest-in z = omega (arith, first-most (after n r p x) (n .trips r) 0)
+    unfolding firstNotBefore
+    latest-in z = omega (arith, first-most after (n .trips r) 0)
 
-    pub latest-some : {v : ℕ} → (i ≡ 0 → ⊥) → v ≡ n .tripAt r (i - 1)
-        → At v ≡ tripIs (catch Arrival n r p x)
-    unfolding tripIs catch
-    latest-some z g =
-        let at = last-some (n .trips r) 0 (i - 1) none (omega arith) (omega (arith, latest-in z))
-        (λ j h c. fails j (omega arith)) (λ j h c. passes j (omega arith) (omega arith)) in
-        ap At g ∙ ap tripIs (sym at)
+    pub latest-some : (i ≡ 0 → ⊥) → tripIn n r (At (i - 1)) ≡ catch Arrival n r p x
+    unfolding tripIn catch
+    latest-some z =
+        sym (last-some (n .trips r) 0 (i - 1) none (omega arith) (omega (arith, latest-in z))
+        (λ j h c. fails j (omega arith)) (λ j h c. passes j (omega arith) (omega arith)))

@@ -1,9 +1,9 @@
--- Laws that belong to no one function. For callers: OfRoute.
+-- Laws that belong to no one function.
 pub mod Firsts
 pub mod Tests
 pub mod Earliest
 pub mod Latest
-pub mod OfRoute
+pub mod Near
 pub mod Spans
 pub mod Stations
 pub mod Counting

@@ -2,6 +2,7 @@
 pub mod places; // places.rt: the stops of a stop or an area
 
 ghost use mathlib.Core.Path.{_≡_};
+ghost use Rattle.base.specs.Halving.{Bracket};
 ghost use Prim.Native.Nat.{ℕ, _<_};
 ghost use Rattle.model.specs.Lists.{upto};
 ghost use Rattle.model.specs.declared.Direction.the-variants.{Departure, Arrival};
@@ -11,11 +12,11 @@ ghost use Rattle.repository.specs.Laid.{Laid};
 ghost use Rattle.repository.specs.Accepted.{Accepted};
 ghost use Rattle.repository.specs.NetOf.{transferRow, walkRow, netOf};
 ghost use Rattle.repository.specs.Rows.{calls, transfers, walks, rowCount, OfStop, callRoute, callFirst, Stands};
-ghost use Rattle.discovery.specs.Trips.{tripIs, firstNotBefore, firstAfter};
+ghost use Rattle.discovery.specs.Trips.{tripIn, InRoute, notBefore, firstNotBefore};
 use shared::Duration;
 use shared::Time;
 
-// A trip of a route, or none.
+// A trip of a route, by its place in the route's order, or none.
 pub enum Trip {
     At(u32),
     Nothing,
@@ -41,80 +42,139 @@ pub fn get_departure_time(tables: &[u32], v: u32, p: u32) -> Time
     repository::times::departure_in(tables, row, p)
 }
 
-// The place of the first trip of a route that arrives at position p not before the label.
-fn first_not_before(tables: &[u32], r: u32, p: u32, label: Time) -> u32
+// Whether the trip at place i of a route arrives at position p not before x. (That x is wider than a label lets it be the second after any.)
+fn is_not_before(tables: &[u32], r: u32, p: u32, x: usize, i: u32) -> bool
     requires { ⌜ Accepted (now tables) ⌝ }
     requires { ⌜ r < netOf (now tables) .routes ⌝ }
     requires { ⌜ p < netOf (now tables) .positions r ⌝ }
-    ensures { λ i. ⌜ i ≡ firstNotBefore (netOf (now (tables .entry))) r p (label .0) ⌝ }
+    requires { ⌜ i < netOf (now tables) .trips r ⌝ }
+    ensures { λ b. ⌜ b ≡ notBefore (netOf (now (tables .entry))) r p x i ⌝ }
 {
-    let mut lo: u32 = 0;
-    let mut hi = repository::routes::trips_of_route(tables, r);
+    let v = repository::routes::trip_at(tables, r, i);
+    let a = get_arrival_time(tables, v, p);
+    x <= a.0 as usize
+}
+
+// The place of the first trip of a route that arrives at position p not before x: it is not before `from`, nor after `to`. By halving.
+fn first_between(tables: &[u32], r: u32, p: u32, x: usize, from: u32, to: u32) -> u32
+    requires { ⌜ Accepted (now tables) ⌝ }
+    requires { ⌜ r < netOf (now tables) .routes ⌝ }
+    requires { ⌜ p < netOf (now tables) .positions r ⌝ }
+    requires { ⌜ Bracket (notBefore (netOf (now tables)) r p x) (netOf (now tables) .trips r) from to ⌝ }
+    ensures { λ i. ⌜ i ≡ firstNotBefore (netOf (now (tables .entry))) r p x ⌝ }
+{
+    let mut lo = from;
+    let mut hi = to;
     while lo < hi {
         let mid = lo + (hi - lo) / 2;
-        let v = repository::routes::trip_at(tables, r, mid);
-        let a = get_arrival_time(tables, v, p);
-        if a.0 < label.0 {
-            lo = mid + 1;
-        } else {
+        if is_not_before(tables, r, p, x, mid) {
             hi = mid;
+        } else {
+            lo = mid + 1;
         }
     }
     lo
 }
 
+// That place, which is not after `to`: it is looked for there and just before, then by halving.
+fn first_down(tables: &[u32], r: u32, p: u32, x: usize, to: u32) -> u32
+    requires { ⌜ Accepted (now tables) ⌝ }
+    requires { ⌜ r < netOf (now tables) .routes ⌝ }
+    requires { ⌜ p < netOf (now tables) .positions r ⌝ }
+    requires { ⌜ Bracket (notBefore (netOf (now tables)) r p x) (netOf (now tables) .trips r) 0 to ⌝ }
+    ensures { λ i. ⌜ i ≡ firstNotBefore (netOf (now (tables .entry))) r p x ⌝ }
+{
+    let mut hi = to;
+    let mut steps: u32 = 0;
+    while steps < 2 {
+        if hi == 0 {
+            return 0;
+        }
+        let before = hi - 1;
+        if is_not_before(tables, r, p, x, before) {
+            hi = before;
+        } else {
+            return hi;
+        }
+        steps += 1;
+    }
+    first_between(tables, r, p, x, 0, hi)
+}
+
+// That place, which is not before `from`, nor after `to`: it is looked for there and just after, then by halving.
+fn first_up(tables: &[u32], r: u32, p: u32, x: usize, from: u32, to: u32) -> u32
+    requires { ⌜ Accepted (now tables) ⌝ }
+    requires { ⌜ r < netOf (now tables) .routes ⌝ }
+    requires { ⌜ p < netOf (now tables) .positions r ⌝ }
+    requires { ⌜ Bracket (notBefore (netOf (now tables)) r p x) (netOf (now tables) .trips r) from to ⌝ }
+    ensures { λ i. ⌜ i ≡ firstNotBefore (netOf (now (tables .entry))) r p x ⌝ }
+{
+    let mut lo = from;
+    let mut steps: u32 = 0;
+    while steps < 2 {
+        if lo == to {
+            return to;
+        }
+        if is_not_before(tables, r, p, x, lo) {
+            return lo;
+        }
+        lo += 1;
+        steps += 1;
+    }
+    first_between(tables, r, p, x, lo, to)
+}
+
+// That place, looked for around `near` first, which may be any number. Along a route it is nearly always that of the trip aboard or one beside
+// it; only elsewhere the halving is paid for, in which each step waits for the one before.
+fn first_near(tables: &[u32], r: u32, p: u32, x: usize, near: usize) -> u32
+    requires { ⌜ Accepted (now tables) ⌝ }
+    requires { ⌜ r < netOf (now tables) .routes ⌝ }
+    requires { ⌜ p < netOf (now tables) .positions r ⌝ }
+    ensures { λ i. ⌜ i ≡ firstNotBefore (netOf (now (tables .entry))) r p x ⌝ }
+{
+    let n = repository::routes::trips_of_route(tables, r);
+    if near < n as usize {
+        let i = near as u32;
+        if is_not_before(tables, r, p, x, i) {
+            return first_down(tables, r, p, x, i);
+        }
+        return first_up(tables, r, p, x, i + 1, n);
+    }
+    first_between(tables, r, p, x, 0, n)
+}
+
 // The first trip of a route that arrives at position p not before the label, which is a moment: an absent label is
-// passed over before any lookup.
-pub fn find_earliest_trip(tables: &[u32], r: u32, p: u32, label: Time) -> Trip
+// passed over before any lookup. The trip at place `near` is looked at first.
+pub fn find_earliest_trip(tables: &[u32], r: u32, p: u32, label: Time, near: u32) -> Trip
     requires { ⌜ Accepted (now tables) ⌝ }
     requires { ⌜ r < netOf (now tables) .routes ⌝ }
     requires { ⌜ p < netOf (now tables) .positions r ⌝ }
     requires { ⌜ 0 < label .0 ⌝ }
-    ensures { λ t. ⌜ t ≡ tripIs (catch Departure (netOf (now (tables .entry))) r p (label .0)) ⌝ }
+    ensures { λ t. ⌜ tripIn (netOf (now (tables .entry))) r t ≡ catch Departure (netOf (now (tables .entry))) r p (label .0) ⌝ }
+    ensures { λ t. ⌜ InRoute (netOf (now (tables .entry))) r t ⌝ }
 {
-    let i = first_not_before(tables, r, p, label);
-    let n = repository::routes::trips_of_route(tables, r);
-    if i < n {
-        return Trip::At(repository::routes::trip_at(tables, r, i));
+    let i = first_near(tables, r, p, label.0 as usize, near as usize);
+    if i < repository::routes::trips_of_route(tables, r) {
+        return Trip::At(i);
     }
     Trip::Nothing
 }
 
-// The place of the first trip of a route that arrives at position p after the label.
-fn first_after(tables: &[u32], r: u32, p: u32, label: Time) -> u32
-    requires { ⌜ Accepted (now tables) ⌝ }
-    requires { ⌜ r < netOf (now tables) .routes ⌝ }
-    requires { ⌜ p < netOf (now tables) .positions r ⌝ }
-    ensures { λ i. ⌜ i ≡ firstAfter (netOf (now (tables .entry))) r p (label .0) ⌝ }
-{
-    let mut lo: u32 = 0;
-    let mut hi = repository::routes::trips_of_route(tables, r);
-    while lo < hi {
-        let mid = lo + (hi - lo) / 2;
-        let v = repository::routes::trip_at(tables, r, mid);
-        let a = get_arrival_time(tables, v, p);
-        if a.0 <= label.0 {
-            lo = mid + 1;
-        } else {
-            hi = mid;
-        }
-    }
-    lo
-}
-
-// The last trip of a route that arrives at position p not after the label, which is a moment.
-pub fn find_latest_trip(tables: &[u32], r: u32, p: u32, label: Time) -> Trip
+// The last trip of a route that arrives at position p not after the label, which is a moment: it stands before the first that arrives a second
+// later or more. The trip at place `near` is looked at first.
+pub fn find_latest_trip(tables: &[u32], r: u32, p: u32, label: Time, near: u32) -> Trip
     requires { ⌜ Accepted (now tables) ⌝ }
     requires { ⌜ r < netOf (now tables) .routes ⌝ }
     requires { ⌜ p < netOf (now tables) .positions r ⌝ }
     requires { ⌜ 0 < label .0 ⌝ }
-    ensures { λ t. ⌜ t ≡ tripIs (catch Arrival (netOf (now (tables .entry))) r p (label .0)) ⌝ }
+    ensures { λ t. ⌜ tripIn (netOf (now (tables .entry))) r t ≡ catch Arrival (netOf (now (tables .entry))) r p (label .0) ⌝ }
+    ensures { λ t. ⌜ InRoute (netOf (now (tables .entry))) r t ⌝ }
 {
-    let i = first_after(tables, r, p, label);
+    let i = first_near(tables, r, p, label.0 as usize + 1, near as usize + 1);
     if i == 0 {
         return Trip::Nothing;
     }
-    Trip::At(repository::routes::trip_at(tables, r, i - 1))
+    Trip::At(i - 1)
 }
 
 // The first position, in the route of row j, of the stop whose row it is. The tables hold it, so that no search walks

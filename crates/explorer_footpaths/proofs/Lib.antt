@@ -1,4 +1,5 @@
 pub mod Steps
+pub mod Gaining
 pub mod Paths
 pub mod Held
 pub mod Stops

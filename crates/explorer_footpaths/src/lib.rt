@@ -4,13 +4,13 @@ ghost use Prim.Native.Nat.{ℕ, _<_, _≤_};
 ghost use lib.ListN.{getD};
 ghost use Rattle.model.specs.declared.Direction.the-variants.{Departure, Arrival};
 ghost use Rattle.model.specs.declared.LegType.the-variants.{Transfer, Walk};
-ghost use Rattle.model.specs.Moments.{ahead};
+ghost use Rattle.model.specs.Moments.{better, ahead};
 ghost use Rattle.model.specs.Legs.{legOf};
 ghost use Rattle.model.specs.Footpaths.{walked};
 ghost use Rattle.repository.specs.Accepted.{Accepted};
 ghost use Rattle.repository.specs.NetOf.{transferRow, walkRow, netOf};
 ghost use Rattle.repository.specs.Rows.{transfers, walks, OfStop};
-ghost use Rattle.allocator.specs.Layout.{Sized, view, heldOf};
+ghost use Rattle.allocator.specs.Layout.{Words, Sized, view, bestOf, heldOf};
 ghost use Rattle.allocator.specs.Tidy.{Kept};
 ghost use Rattle.explorer.specs.Fused.{stopWork, feetWork};
 ghost use Rattle.explorer.specs.Turns.{inTurn};
@@ -72,6 +72,17 @@ fn leg_of(d: Direction, kind: LegType, s: u32, x: Time, to: u32, y: Time) -> Leg
     }
 }
 
+// Whether a footpath from x could gain anything at the stop `to`: it takes time, so where x itself is no better than the best
+// moment there, its span need not be worked out.
+fn may_gain(words: &[u32], n: u32, m: u32, d: Direction, x: Time, to: u32) -> bool
+    requires { ⌜ Words n m (now words) ⌝ }
+    requires { ⌜ to < n ⌝ }
+    ensures { λ b. ⌜ b ≡ better d (x .0) (getD (bestOf n m (now (words .entry))) to 0) ⌝ }
+{
+    let best = allocator::best_at(words, n, m, to);
+    allocator::is_better(d, x, best)
+}
+
 // One footpath from stop s, whose label is x.
 fn explore_path(
     words: &mut [u32],
@@ -127,21 +138,23 @@ fn explore_transfer(
     ensures { λ _. ⌜ Kept n m (now (words .entry)) (now (marks .entry)) (now (words .exit)) (now (marks .exit)) ⌝ }
 {
     let to = repository::footpaths::transfer_to(tables, j);
-    let span = discovery::transfer_duration(tables, j);
-    explore_path(
-        words,
-        marks,
-        n,
-        m,
-        d,
-        k,
-        target,
-        LegType::Transfer,
-        s,
-        x,
-        to,
-        span,
-    );
+    if may_gain(words, n, m, d, x, to) {
+        let span = discovery::transfer_duration(tables, j);
+        explore_path(
+            words,
+            marks,
+            n,
+            m,
+            d,
+            k,
+            target,
+            LegType::Transfer,
+            s,
+            x,
+            to,
+            span,
+        );
+    }
 }
 
 // The transfers that are listed under stop s.
@@ -195,21 +208,23 @@ fn explore_walk(
     ensures { λ _. ⌜ Kept n m (now (words .entry)) (now (marks .entry)) (now (words .exit)) (now (marks .exit)) ⌝ }
 {
     let to = repository::footpaths::walk_to(tables, j);
-    let span = discovery::walk_duration(tables, j);
-    explore_path(
-        words,
-        marks,
-        n,
-        m,
-        d,
-        k,
-        target,
-        LegType::Walk,
-        s,
-        x,
-        to,
-        span,
-    );
+    if may_gain(words, n, m, d, x, to) {
+        let span = discovery::walk_duration(tables, j);
+        explore_path(
+            words,
+            marks,
+            n,
+            m,
+            d,
+            k,
+            target,
+            LegType::Walk,
+            s,
+            x,
+            to,
+            span,
+        );
+    }
 }
 
 // The walks that are listed under it.

@@ -19,54 +19,48 @@ use Rattle.repository.specs.NetOf.{netOf}
 use Rattle.repository.specs.Rows.{TripOf, timeRow, tripCount}
 use Rattle.repository.proofs.Trips.{trip-known}
 use Rattle.discovery.specs.declared.Trip.{Trip}
-use Rattle.discovery.specs.Trips.{tripIs}
 use Rattle.discovery.specs.declared.Trip.the-variants.{At, Nothing}
-use Rattle.discovery.proofs.OfRoute.{earliest-of-route, latest-of-route}
+use Rattle.discovery.specs.Trips.{tripIn, InRoute}
 use Rattle.explorer_rides.specs.Riding.{aboard, Seated, OnRoute, boardAt}
 use Rattle.explorer_rides.proofs.Seats.{aboard-on}
 
 -- ---- the lookup
-module _ {d : Direction} (w : List ℕ) (r p x : ℕ) {t : Trip} where
-  pub find-departure : d ≡ Departure → t ≡ tripIs (catch Departure (netOf w) r p x) → t ≡ tripIs (catch d (netOf w) r p x)
+module _ {d : Direction} (w : List ℕ) (r p x : ℕ) (t : Trip) where
+  pub find-departure : d ≡ Departure → tripIn (netOf w) r t ≡ catch Departure (netOf w) r p x → tripIn (netOf w) r t ≡ catch d (netOf w) r p x
   find-departure e f = f ∙ rw e
 
-  pub find-arrival : d ≡ Arrival → t ≡ tripIs (catch Arrival (netOf w) r p x) → t ≡ tripIs (catch d (netOf w) r p x)
+  pub find-arrival : d ≡ Arrival → tripIn (netOf w) r t ≡ catch Arrival (netOf w) r p x → tripIn (netOf w) r t ≡ catch d (netOf w) r p x
   find-arrival e f = f ∙ rw e
 
-module _ (d : Direction) (w : List ℕ) (r p x : ℕ) {found : Trip} (e : found ≡ tripIs (catch d (netOf w) r p x)) where
-  caught-trip : {v : ℕ} → found ≡ At v → TripOf (netOf w) r v
-  caught-trip f = go d e f
-    where
-      go : (d : Direction) → found ≡ tripIs (catch d (netOf w) r p x) → {v : ℕ} → found ≡ At v → TripOf (netOf w) r v
-      go Departure e f = earliest-of-route (netOf w) r p x e f
-      go Arrival e f = latest-of-route (netOf w) r p x e f
+module _ (w : List ℕ) (r p : ℕ) {t : Trip} (z : InRoute (netOf w) r t) {i : ℕ} (f : t ≡ At i) where
+  pub caught-in : i < netOf w .trips r
+  caught-in = z .within i f
 
-  pub caught-known : {v : ℕ} → found ≡ At v → OnRoute w r p → v < tripCount w
-  caught-known f h = trip-known (h .accepted) (h .route) (caught-trip f)
+  module _ {v : ℕ} (g : v ≡ netOf w .tripAt r i) where
+    caught-trip : TripOf (netOf w) r v
+    caught-trip = record { place = i; within = caught-in; trip = g }
 
-  pub caught-seat : {v row : ℕ} → found ≡ At v → OnRoute w r p → row ≡ timeRow w v
-      → Seated w r (record { trip = v; since = p; row = row })
-  caught-seat f h g = record { seat = λ real. record { trip = caught-trip f; since = h .position; times = g } }
+    pub caught-known : OnRoute w r p → v < tripCount w
+    caught-known h = trip-known (h .accepted) (h .route) caught-trip
 
-  answers : (o : Option ℕ) → found ≡ tripIs o → (a : Aboard) {v : ℕ} → found ≡ At v → On v p ≡ boarded p a o
-  unfolding tripIs boarded
-  answers none g a {v} f = let z : At v ≡ Nothing = sym f ∙ g in let y : _≡_ {A = ℕ} 0 1 = cc in absurd (omega arith)
-  answers (some u) g a {v} f = let z : At v ≡ At u = sym f ∙ g in let y : v ≡ u = cc in ap (λ (i : ℕ). On i p) y
+    pub caught-seat : OnRoute w r p → {row : ℕ} → row ≡ timeRow w v
+        → Seated w r (record { trip = v; since = p; row = row; place = i })
+    caught-seat h k = record { seat = λ real. record { trip = caught-trip; since = h .position; times = k } }
 
-  pub caught-one : (a : Aboard) {v : ℕ} (row : ℕ) → found ≡ At v → OnRoute w r p
-      → aboard (record { trip = v; since = p; row = row }) ≡ boarded p a (catch d (netOf w) r p x)
-  unfolding tripCount
-  caught-one a {v} row f h =
-      let real : v ≡ MAX → ⊥ = λ e. omega (arith, caught-known f h, h .accepted .laid .trips-limit) in
-      aboard-on (record { trip = v; since = p; row = row }) real ∙ answers (catch d (netOf w) r p x) e a f
+    -- the trip that is caught is the one aboard
+    pub caught-one : (d : Direction) (x : ℕ) (a : Aboard) (row : ℕ) → tripIn (netOf w) r t ≡ catch d (netOf w) r p x → OnRoute w r p
+        → aboard (record { trip = v; since = p; row = row; place = i }) ≡ boarded p a (catch d (netOf w) r p x)
+    unfolding tripCount tripIn boarded
+    caught-one d x a row e h =
+        let real : v ≡ MAX → ⊥ = λ m. omega (arith, caught-known h, h .accepted .laid .trips-limit) in
+        let is : catch d (netOf w) r p x ≡ some (netOf w .tripAt r i) = sym e ∙ rw f in
+        aboard-on (record { trip = v; since = p; row = row; place = i }) real ∙ ap (λ (u : ℕ). On u p) g ∙ rw is
 
-  empty : (o : Option ℕ) → found ≡ tripIs o → (a : Aboard) → found ≡ Nothing → a ≡ boarded p a o
-  unfolding tripIs boarded
-  empty none g a f = refl
-  empty (some u) g a f = let z : Nothing ≡ At u = sym f ∙ g in let y : _≡_ {A = ℕ} 0 1 = cc in absurd (omega arith)
-
-  pub caught-none : (a : Aboard) → found ≡ Nothing → a ≡ boarded p a (catch d (netOf w) r p x)
-  caught-none a f = empty (catch d (netOf w) r p x) e a f
+-- where none is caught, the ride goes on
+pub caught-none : (d : Direction) (w : List ℕ) (r p x : ℕ) (a : Aboard) {t : Trip} → tripIn (netOf w) r t ≡ catch d (netOf w) r p x
+    → t ≡ Nothing → a ≡ boarded p a (catch d (netOf w) r p x)
+unfolding tripIn boarded
+caught-none d w r p x a e f = let is : catch d (netOf w) r p x ≡ none = sym e ∙ rw f in rw is
 
 -- ---- an absent label
 module _ {n : Net} (z : Timed n) (r p : ℕ) (hr : r < n .routes) (hp : p < n .positions r) where

@@ -79,9 +79,9 @@ module _ (d : Direction) (w : List ℕ) (n m k target r from : ℕ) (ws₀ ms₀
 
 module _ {d : Direction} {w : List ℕ} {n m k target r from : ℕ} {ws₀ ms₀ : List ℕ} where
   pub along-start : {ps : List ℕ} → ps ≡ course d (netOf w) r from
-      → Along d w n m k target r from ws₀ ms₀ ws₀ ms₀ (record { trip = MAX; since = 0; row = 0 }) ps
+      → Along d w n m k target r from ws₀ ms₀ ws₀ ms₀ (record { trip = MAX; since = 0; row = 0; place = MAX }) ps
   along-start e = record {
-    rest = rw (e, aboard-off (record { trip = MAX; since = 0; row = 0 }) refl);
+    rest = rw (e, aboard-off (record { trip = MAX; since = 0; row = 0; place = MAX }) refl);
     kept = kept-same;
     seated = record { seat = λ real. absurd (real refl) };
   }

@@ -149,6 +149,7 @@ fn scan(
         trip: repository::MAX,
         since: 0,
         row: 0,
+        place: repository::MAX,
     };
     let mut p = from + 1;
     while 0 < p {

@@ -148,6 +148,7 @@ fn scan(
         trip: repository::MAX,
         since: 0,
         row: 0,
+        place: repository::MAX,
     };
     let mut p = from;
     while p < end {

@@ -17,11 +17,13 @@ use marks::Next;
 use shared::Time;
 
 // Who is aboard: a trip since a position of the route, with the first row of the trip's times. The trip
-// MAX is none. (An enum would carry bytes that hold nothing from position to position.)
+// MAX is none. (An enum would carry bytes that hold nothing from position to position.) The trip's place
+// in the route's order tells where to look first for the next; nothing rests on it.
 pub struct Ride {
     pub trip: u32,
     pub since: u32,
     pub row: u32,
+    pub place: u32,
 }
 
 pub fn explore_routes(

@@ -8,7 +8,7 @@ ghost use Rattle.model.specs.Legs.{legOf};
 ghost use Rattle.model.specs.Moments.{better, ahead};
 ghost use Rattle.model.specs.Rides.{leave, catch, boarded};
 ghost use Rattle.repository.specs.NetOf.{netOf};
-ghost use Rattle.discovery.specs.Trips.{tripIs};
+ghost use Rattle.discovery.specs.Trips.{tripIn, InRoute};
 ghost use Rattle.allocator.specs.Layout.{Words, Sized, bestOf, view};
 ghost use Rattle.allocator.specs.Operations.{applied};
 ghost use Rattle.allocator.specs.Tidy.{Kept};
@@ -20,15 +20,17 @@ use model::Leg;
 use model::LegType;
 use shared::Time;
 
-// The first trip that arrives at position p not before the label; in an arrival search the last not after it.
-fn find_trip(tables: &[u32], d: Direction, r: u32, p: u32, label: Time) -> Trip
+// The first trip that arrives at position p not before the label; in an arrival search the last not after it. The trip at place `near`
+// is looked at first.
+fn find_trip(tables: &[u32], d: Direction, r: u32, p: u32, label: Time, near: u32) -> Trip
     requires { ⌜ OnRoute (now tables) r p ⌝ }
     requires { ⌜ 0 < label .0 ⌝ }
-    ensures { λ t. ⌜ t ≡ tripIs (catch d (netOf (now (tables .entry))) r p (label .0)) ⌝ }
+    ensures { λ t. ⌜ tripIn (netOf (now (tables .entry))) r t ≡ catch d (netOf (now (tables .entry))) r p (label .0) ⌝ }
+    ensures { λ t. ⌜ InRoute (netOf (now (tables .entry))) r t ⌝ }
 {
     match d {
-        Direction::Departure => discovery::find_earliest_trip(tables, r, p, label),
-        Direction::Arrival => discovery::find_latest_trip(tables, r, p, label),
+        Direction::Departure => discovery::find_earliest_trip(tables, r, p, label, near),
+        Direction::Arrival => discovery::find_latest_trip(tables, r, p, label, near),
     }
 }
 
@@ -40,13 +42,17 @@ pub fn catch_trip(tables: &[u32], d: Direction, r: u32, p: u32, label: Time, rid
     ensures { λ e. ⌜ aboard e ≡ boarded p (aboard ride) (catch d (netOf (now (tables .entry))) r p (label .0)) ⌝ }
     ensures { λ e. ⌜ Seated (now (tables .entry)) r e ⌝ }
 {
-    let found = find_trip(tables, d, r, p, label);
+    let found = find_trip(tables, d, r, p, label, ride.place);
     match found {
-        Trip::At(v) => Ride {
-            trip: v,
-            since: p,
-            row: repository::times::time_row(tables, v),
-        },
+        Trip::At(i) => {
+            let v = repository::routes::trip_at(tables, r, i);
+            return Ride {
+                trip: v,
+                since: p,
+                row: repository::times::time_row(tables, v),
+                place: i,
+            };
+        }
         Trip::Nothing => ride,
     }
 }

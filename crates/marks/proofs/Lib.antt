@@ -2,4 +2,3 @@
 pub mod Chosen
 pub mod Words
 pub mod Laws
-pub mod Stand

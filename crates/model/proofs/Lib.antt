@@ -7,6 +7,7 @@ pub mod Rides
 pub mod Footpaths
 pub mod Choosing
 pub mod Way
+pub mod Reversed
 pub mod Round
 pub mod Rows
 pub mod Aiming

@@ -13,6 +13,7 @@ use Rattle.model.specs.declared.Leg.{Leg}
 use Rattle.model.specs.Back.{inOrder}
 use Rattle.model.specs.Bytes.{writeLeg, write, legSize, sizeOf}
 use Rattle.model.proofs.ReadBack.{leg-length, size-is}
+use Rattle.model.proofs.Reversed.{reverse-size}
 use Rattle.journey.specs.Put.{put}
 use Rattle.journey.proofs.Put.{put-length, put-first, put-next}
 
@@ -21,20 +22,9 @@ unfolding write
 write-last [] g = append-nil (writeLeg g)
 write-last (h ∷ gs) g = rw (write-last gs g) (sym (append-assoc (writeLeg h) (write gs) (writeLeg g)))
 
-size-last : (gs : List Leg) (g : Leg) → sizeOf (gs ++ g ∷ []) ≡ legSize (g .kind) + sizeOf gs
-unfolding sizeOf
-size-last [] g = refl
-size-last (h ∷ gs) g = omega (arith, size-last gs g)
-
-reverse-size : (gs : List Leg) → sizeOf (reverse gs) ≡ sizeOf gs
-unfolding sizeOf
-reverse-size [] = refl
-reverse-size (g ∷ gs) =
-    ap sizeOf (reverse-cons g gs) ∙ size-last (reverse gs) g ∙ ap (λ x. legSize (g .kind) + x) (reverse-size gs)
-
 pub order-size : (d : Direction) (gs : List Leg) → length (write (inOrder d gs)) ≡ sizeOf gs
-unfolding inOrder
-order-size Departure gs = size-is (reverse gs) ∙ reverse-size gs
+unfolding inOrder sizeOf
+order-size Departure gs = size-is (reverse gs) ∙ reverse-size gs [] ∙ add-zero (sizeOf gs)
 order-size Arrival gs = size-is gs
 
 order-none : (d : Direction) → write (inOrder d []) ≡ []

@@ -24,9 +24,6 @@ use Rattle.raptor.specs.Rooms.{roomBy, roomOf}
 
 -- ---- the tables
 
-pub accepted-laid : {t : List ℕ} → Accepted t → Laid t
-accepted-laid h = h .laid
-
 module _ (t : List ℕ) {c : ℕ} (e : c ≡ checkOf t) where
   pub zero-accepted : c ≡ 0 → Accepted t
   zero-accepted z = accepted-is t .0 (sym e ∙ z)

@@ -17,7 +17,7 @@ use Rattle.model.specs.declared.Target.{Target}
 use Rattle.model.specs.declared.TimeConstraint.{TimeConstraint}
 use Rattle.model.specs.declared.TimeConstraint.the-variants.{Departure, Arrival}
 use Rattle.model.specs.Tables.{Net}
-use Rattle.model.specs.State.{State}
+use Rattle.model.specs.State.{task, State}
 use Rattle.model.specs.Places.{exists, placeStops, stopsOfArea}
 use Rattle.model.specs.Answer.{mayWalk, momentOf, taskBy, taskOf, refusal, searched}
 use Rattle.model.specs.Round.{listed}
@@ -28,7 +28,6 @@ use Rattle.raptor_query.specs.Areas.{areaPart}
 use Rattle.raptor_query.proofs.Places.{stop-there}
 use Rattle.raptor_rounds.specs.Fixed.{Fixed}
 use Rattle.raptor_rounds.specs.Stops.{Below}
-use Rattle.raptor_rounds.specs.Task.{task}
 use Rattle.raptor.specs.Searching.{Tabled, Place}
 
 module _ {t : List ℕ} {n m : ℕ} (x : Tabled t n m) where

@@ -13,7 +13,7 @@ ghost use Rattle.repository.specs.NetOf.{netOf};
 ghost use Rattle.allocator.specs.Layout.{Sized, view};
 ghost use Rattle.allocator.specs.Tidy.{Tidy};
 ghost use Rattle.raptor_rounds.specs.Stops.{Below};
-ghost use Rattle.raptor_rounds.specs.Task.{task};
+ghost use Rattle.model.specs.State.{task};
 ghost use Rattle.raptor.specs.Searching.{Tabled, Place, Written, Ran};
 use model::Answer;
 use model::Direction;

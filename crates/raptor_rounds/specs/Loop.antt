@@ -12,7 +12,7 @@ use Rattle.model.specs.Round.{aim, listed}
 use Rattle.model.specs.Search.{search}
 use Rattle.repository.specs.NetOf.{netOf}
 use Rattle.repository.proofs.Sound.{accepted-sound}
-use Rattle.model.specs.State.{Task}
+use Rattle.model.specs.State.{Task, task}
 use Rattle.allocator.specs.Layout.{view, bestOf, markOf}
 use Rattle.allocator.specs.Tidy.{Tidy, Kept}
 use Rattle.allocator.proofs.Keeping.{kept-tidy}
@@ -21,7 +21,7 @@ use Rattle.allocator.specs.Repeated.{startedAll}
 use Rattle.raptor_rounds.specs.Fixed.{Fixed}
 use Rattle.raptor_rounds.specs.Stops.{Below}
 use Rattle.raptor_rounds.specs.Rounds.{Rounds}
-use Rattle.raptor_rounds.specs.Task.{task, roundWork, Ready, ready, search-start, search-on, search-ends, search-done}
+use Rattle.raptor_rounds.specs.OneRound.{roundWork, Ready, ready, search-start, search-on, search-ends, search-done}
 
 -- no stop is chosen yet
 abbrev pub none : Target

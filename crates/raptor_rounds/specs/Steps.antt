@@ -16,7 +16,7 @@ use Rattle.explorer.specs.Fused.{ridesWork, feetWork}
 use Rattle.explorer_choosing.specs.Chosen.{openedBy}
 use Rattle.explorer_footpaths.specs.Footing.{Footing}
 use Rattle.raptor_rounds.specs.Fixed.{Fixed}
-use Rattle.raptor_rounds.specs.Task.{roundWork, Ready}
+use Rattle.raptor_rounds.specs.OneRound.{roundWork, Ready}
 
 module _ {t : List ℕ} {n m : ℕ} (x : Fixed t n m) where
   pub fixed-accepted : Accepted t

@@ -5,7 +5,6 @@ use mathlib.Core.List.{List, [], _∷_, List·Memᴰ}
 use native.Mathlib.Omega.{arith}
 use native.Mathlib.Numerals.{add-one}
 use Rattle.base.specs.Tab.{tab}
-use Rattle.base.specs.Loop.{iter, upto}
 use Rattle.repository.specs.NetOf.{count, listOf, transferRow, walkRow, netOf}
 use Rattle.repository.specs.Rows.{calls, transfers, walks, startsOf, firstRow, pastRow, rest, callRoute}
 use Rattle.repository.proofs.Tabs.{Said, tab-said, tab-says}
@@ -20,18 +19,6 @@ module _ {A : Type 0} (f : ℕ → A) where
   pub rest-end : {j b : ℕ} → b ≤ j → rest f j b ≡ []
   unfolding rest tab
   rest-end {j} {b} l = let none : b - j ≡ 0 = omega arith in rw none
-
--- a function that takes a list entry by entry is a counted loop over its rows
-module _ {A X : Type 0} (f : ℕ → A) (g : List A → X → X) (step : A → X → X) (stops : (x : X) → g [] x ≡ x)
-    (steps : (a : A) (l : List A) (x : X) → g (a ∷ l) x ≡ g l (step a x)) where
-  tab-loop : (n i : ℕ) (x : X) → g (tab f n i) x ≡ iter (λ j y. step (f j) y) n i x
-  unfolding tab iter
-  tab-loop zero i x = stops x
-  tab-loop (suc n) i x = steps (f i) (tab f n (suc i)) x ∙ tab-loop n (suc i) (step (f i) x)
-
-  pub rest-loop : (a b : ℕ) (x : X) → g (rest f a b) x ≡ upto (λ j y. step (f j) y) a b x
-  unfolding rest upto
-  rest-loop a b x = tab-loop (b - a) a x
 
 -- ---- the lists of a stop
 

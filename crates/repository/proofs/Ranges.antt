@@ -30,10 +30,6 @@ module _ {w : List ℕ} (h : Laid w) where
   unfolding netOf
   routes-few = h .routes-limit
 
-  pub positions-few : {r : ℕ} → r < netOf w .routes → netOf w .positions r ≤ 128
-  unfolding netOf
-  positions-few {r} i = h .positions-limit r i
-
 -- ---- rows of a stop
 
 pub of-stop : (l : Listing) {w : List ℕ} {s a b j : ℕ} → s < netOf w .stops → a ≡ firstRow l w s → a ≤ j

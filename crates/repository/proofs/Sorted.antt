@@ -21,7 +21,3 @@ module _ {n : Net} (o : Ordered n) {r p i j : ℕ} (hr : r < n .routes) (hp : p 
   pub arrivals-sorted : n .arrival (n .tripAt r i) p ≤ n .arrival (n .tripAt r j) p
   arrivals-sorted =
       never-falls (λ k. n .arrival (n .tripAt r k) p) i j (n .trips r) (λ k g. o .arrivals r k p hr g hp) l hj
-
-  pub departures-sorted : n .departure (n .tripAt r i) p ≤ n .departure (n .tripAt r j) p
-  departures-sorted =
-      never-falls (λ k. n .departure (n .tripAt r k) p) i j (n .trips r) (λ k g. o .departures r k p hr g hp) l hj

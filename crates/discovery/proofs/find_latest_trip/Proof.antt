@@ -1,24 +1,39 @@
--- `find_latest_trip`: the trip before the place that halving finds.
+-- `find_latest_trip`: the place before the one that was found.
 use borrow.Author.Needs.{needs}
 use Rattle.discovery.proofs.Latest.{latest-none, latest-in, latest-some}
+use Rattle.discovery.proofs.Near.{at-in, none-in}
 use Rattle.discovery.proofs.find_latest_trip.Statement.{statement}
 use Rattle.discovery.proofs.find_latest_trip.Tie as tie
 
-first-after-requires : tie.Need-first-after-requires
-first-after-requires c κs = search needs
+cast-first-near : tie.Need-cast-first-near
+cast-first-near c = search needs
+
+add-first-near : tie.Need-add-first-near
+add-first-near c = search needs
+
+add-first-near-2 : tie.Need-add-first-near-2
+add-first-near-2 c = search needs
+
+first-near-requires : tie.Need-first-near-requires
+first-near-requires c κs = search needs
 
 returns : tie.Need-returns
-returns c = search (needs, latest-none)
+returns c = (search (needs, latest-none), search (needs, none-in))
 
-sub-trip-at : tie.Need-sub-trip-at
-sub-trip-at c = search needs
-
-trip-at-requires : tie.Need-trip-at-requires
-trip-at-requires c κs = search (needs, latest-in)
+sub-t12 : tie.Need-sub-t12
+sub-t12 c = search needs
 
 returns-2 : tie.Need-returns-2
-returns-2 c = search (needs, latest-some)
+returns-2 c = (search (needs, latest-some), search (needs, at-in, latest-in))
 
 pub find-latest-trip-spec : {M : Type 1} → statement M
 find-latest-trip-spec =
-    tie.close (tie.spec first-after-requires returns sub-trip-at trip-at-requires returns-2)
+    tie.close
+    (tie.spec
+    cast-first-near
+    add-first-near
+    add-first-near-2
+    first-near-requires
+    returns
+    sub-t12
+    returns-2)

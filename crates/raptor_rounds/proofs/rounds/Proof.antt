@@ -3,7 +3,7 @@ use borrow.Author.Needs.{needs}
 use Prim.Native.Nat.{_-_}
 use mathlib.Core.Path.{_≡_}
 use lib.ListN.{length}
-use Rattle.raptor_rounds.specs.Task.{task}
+use Rattle.model.specs.State.{task}
 use Rattle.raptor_rounds.specs.Loop.{At, at-fixed, at-goals, at-ready, at-next, at-end, at-all, at-tidy, at-tidy-now}
 use Rattle.raptor_rounds.proofs.rounds.Statement.{statement}
 use Rattle.raptor_rounds.proofs.rounds.Tie as tie

@@ -1,6 +1,6 @@
 -- `catch_trip`: boarding the trip that was found.
 use borrow.Author.Needs.{needs}
-use Rattle.explorer_rides.proofs.Catching.{caught-known, caught-seat, caught-one, caught-none}
+use Rattle.explorer_rides.proofs.Catching.{caught-in, caught-known, caught-seat, caught-one, caught-none}
 use Rattle.explorer_rides.proofs.seat.catch_trip.Statement.{statement}
 use Rattle.explorer_rides.proofs.seat.catch_trip.Tie as tie
 
@@ -10,14 +10,17 @@ find-trip-requires c κs = search needs
 enum-known-found : tie.Need-enum-known-found
 enum-known-found c = search needs
 
+trip-at-requires : tie.Need-trip-at-requires
+trip-at-requires c κs = search (needs, caught-in)
+
 time-row-requires : tie.Need-time-row-requires
 time-row-requires c κs = search (needs, caught-known)
 
-enum-told : tie.Need-enum-told
-enum-told c = search needs
-
 returns : tie.Need-returns
 returns c = (search (needs, caught-one), search (needs, caught-seat))
+
+enum-told : tie.Need-enum-told
+enum-told c = search needs
 
 returns-2 : tie.Need-returns-2
 returns-2 c = (search (needs, caught-none), search needs)
@@ -25,4 +28,11 @@ returns-2 c = (search (needs, caught-none), search needs)
 pub catch-trip-spec : {M : Type 1} → statement M
 catch-trip-spec =
     tie.close
-    (tie.spec find-trip-requires enum-known-found time-row-requires enum-told returns returns-2)
+    (tie.spec
+    find-trip-requires
+    enum-known-found
+    trip-at-requires
+    time-row-requires
+    returns
+    enum-told
+    returns-2)

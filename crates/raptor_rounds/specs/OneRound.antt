@@ -1,4 +1,4 @@
--- A task by its parts, and a round as the program runs it.
+-- A round as the program runs it.
 use Prim.Native.Nat.{ℕ, zero, suc, _+_, _-_, _*_, _≤_, _<_}
 use mathlib.Core.Path.{_≡_, refl, sym, ap, _∙_, subst}
 use mathlib.Core.Bool.{Bool, true, false}
@@ -12,7 +12,7 @@ use Rattle.model.specs.declared.Mode.{Mode}
 use Rattle.model.specs.declared.Target.{Target}
 use Rattle.model.specs.Tables.{Net}
 use Rattle.model.specs.Lists.{anyOf, setIn}
-use Rattle.model.specs.State.{Task, Labels, Times, State}
+use Rattle.model.specs.State.{Task, task, Labels, Times, State}
 use Rattle.model.specs.Work.{Work, workOf, stateOf}
 use Rattle.model.specs.Round.{aim, listed, picks, opened, ridden, footed, aimed, roundTimes, round, rideHalf, riddenParents}
 use Rattle.model.specs.Search.{begun, ended, search}
@@ -32,9 +32,6 @@ use Rattle.explorer.specs.Fused.{ridesWork, feetWork}
 use Rattle.explorer.proofs.Fused.{rides-fused, round-fused}
 use Rattle.raptor_rounds.specs.Stops.{Below}
 use Rattle.raptor_rounds.specs.Rounds.{Rounds, rounds-start, rounds-next, rounds-end, rounds-all}
-
-abbrev pub task : Direction → Mode → Bool → List ℕ → List ℕ → ℕ → Task
-task d mode walking ss gs t = record { direction = d; mode = mode; walking = walking; starts = ss; goals = gs; moment = t }
 
 unfoldable pub roundWork : Direction → Mode → Bool → Net → ℕ → ℕ → Work → Work
 roundWork d mode walking n k target w = feetWork d n k target walking (holding (ridesWork d n k target (openedBy mode d n w)))

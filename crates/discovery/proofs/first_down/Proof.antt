@@ -1,0 +1,62 @@
+-- `first_down`: two steps towards the first trip, none of them past the one that is looked for.
+use borrow.Author.Needs.{needs}
+use Prim.Native.Nat.{_-_}
+use Rattle.base.specs.Halving.{Bracket}
+use Rattle.repository.specs.NetOf.{netOf}
+use Rattle.discovery.specs.Trips.{notBefore}
+use Rattle.discovery.proofs.Near.{closed-first, in-down, step-before, stop-down}
+use Rattle.discovery.proofs.first_down.Statement.{statement}
+use Rattle.discovery.proofs.first_down.Tie as tie
+
+abbrev Inv-loop : tie.InvT-loop
+Inv-loop tables r p x to hi₀ steps₀ hi steps = Bracket (notBefore (netOf tables) r p x) (netOf tables .trips r) 0 hi
+
+abbrev μ-loop : tie.MeasureT-loop
+μ-loop tables r p x to hi₀ steps₀ hi steps = 2 - steps
+
+loop-holds : tie.Need-loop-holds Inv-loop μ-loop
+loop-holds c = search needs
+
+returns : tie.Need-returns Inv-loop μ-loop
+returns c = search (needs, closed-first)
+
+sub-before : tie.Need-sub-before Inv-loop μ-loop
+sub-before c = search needs
+
+is-not-before-requires : tie.Need-is-not-before-requires Inv-loop μ-loop
+is-not-before-requires c κs = search (needs, in-down)
+
+returns-2 : tie.Need-returns-2 Inv-loop μ-loop
+returns-2 c = search (needs, stop-down)
+
+add-steps : tie.Need-add-steps Inv-loop μ-loop
+add-steps c = search needs
+
+loop-less : tie.Need-loop-less Inv-loop μ-loop
+loop-less c = search needs
+
+loop-again : tie.Need-loop-again Inv-loop μ-loop
+loop-again c = search (needs, step-before)
+
+first-between-requires : tie.Need-first-between-requires Inv-loop μ-loop
+first-between-requires c κs = search needs
+
+returns-3 : tie.Need-returns-3 Inv-loop μ-loop
+returns-3 c = search needs
+
+pub first-down-spec : {M : Type 1} → statement M
+first-down-spec =
+    tie.close
+    (tie.spec
+    Inv-loop
+    μ-loop
+    loop-holds
+    returns
+    sub-before
+    is-not-before-requires
+    returns-2
+    add-steps
+    loop-less
+    loop-again
+    first-between-requires
+    returns-3)
