@@ -7,12 +7,13 @@
 #include <stdio.h>
 #include <sys/mman.h>
 #include <unistd.h>
+#include "face.h"
 #include "nasty.h"
 #include "plain_check.h"
 #include "plain_search.h"
 #include "../crates/kiosk_c/include/kiosk.h"
 
-enum { JUNK = 0xA5, SLICES = 6 };
+enum { SLICES = 6 };
 
 /* A slice in pages of its own, between two that may not be touched. */
 typedef struct { uint8_t *low; size_t room; } pages;
@@ -26,11 +27,6 @@ static void *slice(const pages *p, size_t bytes, int at_end) {
     if (bytes > p->room) { fprintf(stderr, "a slice is larger than its pages\n"); exit(2); }
     return at_end ? p->low + p->room - bytes : p->low;
 }
-static int all_junk(const void *p, size_t n) { const uint8_t *b = p; return n == 0 || (b[0] == JUNK && memcmp(b, b + 1, n - 1) == 0); }
-
-/* The shape of the C face. */
-typedef uint32_t solver(const uint32_t *, size_t, uint32_t *, size_t, uint64_t *, size_t, uint32_t *, size_t, uint8_t *, size_t,
-                         uint32_t, uint32_t, uint32_t, uint32_t, uint32_t, uint32_t, uint32_t, uint32_t, uint32_t *, size_t);
 
 static unsigned long calls, given[14], wrong;
 static void complain(const char *what, uint64_t seed) {

@@ -1,5 +1,6 @@
 #!/bin/sh
-# Imports the source's Rust into target/blaise (never kept in the repository) and builds the programs of this folder.
+# Imports the source's Rust into target/blaise (never kept in the repository), with the marks refilled into target/rescan, and builds the
+# programs of this folder.
 # BLAISE names the folder that holds src/raptor: a checkout of vincbro/blaise at a8db8932f7, or a folder with the twelve files.
 set -eu
 given=${BLAISE:-}
@@ -7,26 +8,35 @@ given=${BLAISE:-}
 cd "$(dirname "$0")"
 from=${given:-../../shared/docs/src}/src
 [ -f "$from/raptor/mod.rs" ] || { echo "no src/raptor/mod.rs in ${given:-../../shared/docs/src}: set BLAISE" >&2; exit 2; }
-to=target/blaise
-mkdir -p $to/raptor $to/repository $to/shared
+to=target/blaise refilled=target/rescan
+mkdir -p $to/raptor $to/repository $to/shared $refilled/raptor
 
 # A file is written only where it differs, so that an unchanged one is not compiled again.
 put() {
-    if cmp -s "$1" "$2"; then rm "$1"; else mv "$1" "$2"; fi
+    if cmp -s $to/new "$1"; then rm $to/new; else mv $to/new "$1"; fi
 }
 for f in raptor/allocator raptor/discovery raptor/explorer raptor/itinerary raptor/location raptor/mod raptor/path raptor/state \
     repository/entities repository/mod shared/time; do
     cp "$from/$f.rs" $to/new
-    put $to/new $to/$f.rs
+    put $to/$f.rs
+done
+for f in allocator discovery explorer itinerary location path state; do
+    cp "$from/raptor/$f.rs" $to/new
+    put $refilled/raptor/$f.rs
 done
 
-# The one change: network_distance asks for the lent distance first.
-sed 's|^\(    pub fn network_distance(&self, coord: &Self) -> Distance {\)$|\1\
-        if let Some(d) = crate::lent::distance(self.latitude, coord.latitude) { return Distance(d); }|' \
-    "$from/shared/geo.rs" > $to/new
-[ "$(diff "$from/shared/geo.rs" $to/new | grep -c '^[<>]')" = 1 ] && [ "$(grep -c 'crate::lent::distance' $to/new)" = 1 ] ||
-    { echo "the line of the lent distance was not inserted in geo.rs" >&2; exit 1; }
-put $to/new $to/shared/geo.rs
+# insert FILE AFTER LINE FOLDER: the file with LINE inserted after the line AFTER. An error where exactly this one line was not inserted.
+insert() {
+    AFTER=$2 LINE=$3 awk '{ print } $0 == ENVIRON["AFTER"] { print ENVIRON["LINE"] }' "$from/$1.rs" > $to/new
+    [ "$(diff "$from/$1.rs" $to/new | grep '^[<>]')" = "> $3" ] || { echo "not exactly this line was inserted in $1.rs:$3" >&2; exit 1; }
+    put "$4/$1.rs"
+}
+# The one change of both: network_distance asks for the lent distance first.
+insert shared/geo '    pub fn network_distance(&self, coord: &Self) -> Distance {' \
+    '        if let Some(d) = crate::lent::distance(self.latitude, coord.latitude) { return Distance(d); }' $to
+# The one change of the second: the route marks are refilled before every round, where the source has such a line as a comment.
+insert raptor/mod '            // allocator.active.fill(u32::MAX);' \
+    '            allocator.active.fill(if let TimeConstraint::Arrival(_) = self.time_constraint { u32::MIN } else { u32::MAX });' $refilled
 
 # The source's loader is not among the files; the module that it would be leads to ours.
 cat > $to/new <<'END'
@@ -35,6 +45,6 @@ cat > $to/new <<'END'
 mod tables;
 pub use tables::*;
 END
-put $to/new $to/repository/source.rs
+put $to/repository/source.rs
 
 cargo build --quiet --offline --profile checked --target-dir target

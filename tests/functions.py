@@ -9,6 +9,10 @@ EXCEPTIONS = {
     "print": "prints; no contract can say what is printed",
     "asking": "turns a line into a query for the programs, and cuts the workspace; what it is told is `solve`'s answer",
 }
+# Functions of which a statement leaves something open, and why.
+OPEN = {
+    "explorer_rides::seat::catch_trip": "left open: the place of the trip, which only says where to look first, and what a ride without a trip holds",
+}
 PROGRAM = "a part of a program; what the program prints is held to a list (its `stdout`, `tests/`)"
 rows, wrong = [], 0
 for line in open("crates.txt"):
@@ -24,7 +28,7 @@ for line in open("crates.txt"):
             cut = lambda word: [" ".join(c.split()) for c in re.findall(word + r" \{(.*?⌝) \}", head, re.S)]
             asks, says = len(cut("requires")), cut("ensures")
             module = os.path.basename(path)[:-3]
-            where = f"`{crate}::{name}`" if module == "lib" else f"`{crate}::{module}::{name}`"
+            where = f"{crate}::{name}" if module == "lib" else f"{crate}::{module}::{name}"
             words = sorted(set(re.findall(r"(?<![.\w-])([A-Za-z][\w′]*[A-Z]\w*|[A-Z]\w+|[a-z]+[A-Z]\w*)", " ".join(says))))
             if not says and crate not in EXCEPTIONS:
                 print(f"{path}: {name} states nothing")
@@ -33,15 +37,24 @@ for line in open("crates.txt"):
             said = ", ".join(f"`{w}`" for w in words) if words else "an equation" if equation else "a bound only" if says else ""
             if crate in EXCEPTIONS and not equation:
                 said = (said + ": " if said else "") + EXCEPTIONS[crate]
-            rows.append(f"| {where} | {asks or ''} | {len(says) or ''} | {said} |")
+            if where in OPEN:
+                said += "; " + OPEN[where]
+            rows.append(f"| `{where}` | `{path[len('crates/'):]}` | {asks or ''} | {len(says) or ''} | {said} |")
 page = """# Every public function
 
-Made by `tests/functions.py` from the sources: what each public function of a crate asks of its caller (how many `requires`), how many
-statements it makes of its result and of everything lent (`ensures`), and the definitions that they cite. The contract itself stands over the
-function's body. Entry points, `raptor` and `kiosk_c`, ask for nothing, but for the forms named `_checked`, which ask for checked tables.
+Made by `tests/functions.py` from the sources: of each public function of a crate, the file in which its contract stands over its body, how much
+it asks of its caller (`requires`), how many statements it makes of its result and of everything lent (`ensures`), and the definitions that they
+cite. The functions that other programs call, `raptor` and `kiosk_c`, ask for nothing, but for the forms named `_checked`, which ask for tables that
+were checked.
 
-| function | asks | states | by |
-|---|---|---|---|
+Two results that meet a statement are equal. Where it is an equation for the result and for each slice that may be written, that is so at once. Where
+it says the state that words and marks hold, with `Tidy` (nothing stands beside that state) or `Kept` (a tidy workspace stays tidy), two tidy
+workspaces of one state are equal word for word: `same-words` of `allocator/proofs/Same.antt`. For `Solved`, and so for all that is called from
+outside, it is `solved-unique` of `raptor/proofs/Unique.antt`. What is left open, or stated only as a bound, is said in the last column with the
+reason.
+
+| function | where | asks | states | by |
+|---|---|---|---|---|
 """ + "\n".join(rows) + "\n"
 if sys.argv[1:] == ["check"]:
     if open("docs/FUNCTIONS.md", encoding="utf-8").read() != page:

@@ -3,6 +3,7 @@ pub mod Firsts
 pub mod Tests
 pub mod Earliest
 pub mod Latest
+pub mod Quarters
 pub mod Near
 pub mod Spans
 pub mod Stations

@@ -3,9 +3,12 @@ use Prim.Native.Nat.{ℕ, _<_}
 use mathlib.Core.Path.{_≡_}
 use mathlib.Core.Bool.{Bool}
 use mathlib.Core.Option.{Option, none, some}
+use mathlib.Core.List.{List}
 use lib.Dec.{leb}
 use Rattle.base.specs.First.{first}
 use Rattle.model.specs.Tables.{Net}
+use Rattle.repository.specs.Accepted.{Accepted}
+use Rattle.repository.specs.NetOf.{netOf}
 use Rattle.discovery.specs.declared.Trip.{Trip}
 use Rattle.discovery.specs.declared.Trip.the-variants.{At, Nothing}
 
@@ -17,6 +20,12 @@ tripIn n r Nothing = none
 -- a place is one of the route's; each trip has one place there, so the trip tells it
 pub record InRoute (n : Net) (r : ℕ) (t : Trip) : Type 0 where
   pub within : (i : ℕ) → t ≡ At i → i < n .trips r
+
+-- a position of a route of accepted tables; their many facts stand behind a function, so that only who asks for them has them
+pub record Along (w : List ℕ) (r p : ℕ) : Type 0 where
+  pub known : Unit {0} → Accepted w
+  pub route : r < netOf w .routes
+  pub position : p < netOf w .positions r
 
 -- the trip at place i arrives at position p not before x
 unfoldable pub notBefore : Net → ℕ → ℕ → ℕ → ℕ → Bool

@@ -12,7 +12,7 @@ ghost use Rattle.repository.specs.Laid.{Laid};
 ghost use Rattle.repository.specs.Accepted.{Accepted};
 ghost use Rattle.repository.specs.NetOf.{transferRow, walkRow, netOf};
 ghost use Rattle.repository.specs.Rows.{calls, transfers, walks, rowCount, OfStop, callRoute, callFirst, Stands};
-ghost use Rattle.discovery.specs.Trips.{tripIn, InRoute, notBefore, firstNotBefore};
+ghost use Rattle.discovery.specs.Trips.{tripIn, InRoute, Along, notBefore, firstNotBefore};
 use shared::Duration;
 use shared::Time;
 
@@ -44,9 +44,7 @@ pub fn get_departure_time(tables: &[u32], v: u32, p: u32) -> Time
 
 // Whether the trip at place i of a route arrives at position p not before x. (That x is wider than a label lets it be the second after any.)
 fn is_not_before(tables: &[u32], r: u32, p: u32, x: usize, i: u32) -> bool
-    requires { ⌜ Accepted (now tables) ⌝ }
-    requires { ⌜ r < netOf (now tables) .routes ⌝ }
-    requires { ⌜ p < netOf (now tables) .positions r ⌝ }
+    requires { ⌜ Along (now tables) r p ⌝ }
     requires { ⌜ i < netOf (now tables) .trips r ⌝ }
     ensures { λ b. ⌜ b ≡ notBefore (netOf (now (tables .entry))) r p x i ⌝ }
 {
@@ -55,11 +53,10 @@ fn is_not_before(tables: &[u32], r: u32, p: u32, x: usize, i: u32) -> bool
     x <= a.0 as usize
 }
 
-// The place of the first trip of a route that arrives at position p not before x: it is not before `from`, nor after `to`. By halving.
+// The place of the first trip of a route that arrives at position p not before x: it is not before `from`, nor after `to`. By halving twice in a
+// step: the three times are read side by side, where halving once would wait for each before it asks for the next.
 fn first_between(tables: &[u32], r: u32, p: u32, x: usize, from: u32, to: u32) -> u32
-    requires { ⌜ Accepted (now tables) ⌝ }
-    requires { ⌜ r < netOf (now tables) .routes ⌝ }
-    requires { ⌜ p < netOf (now tables) .positions r ⌝ }
+    requires { ⌜ Along (now tables) r p ⌝ }
     requires { ⌜ Bracket (notBefore (netOf (now tables)) r p x) (netOf (now tables) .trips r) from to ⌝ }
     ensures { λ i. ⌜ i ≡ firstNotBefore (netOf (now (tables .entry))) r p x ⌝ }
 {
@@ -67,10 +64,25 @@ fn first_between(tables: &[u32], r: u32, p: u32, x: usize, from: u32, to: u32) -
     let mut hi = to;
     while lo < hi {
         let mid = lo + (hi - lo) / 2;
-        if is_not_before(tables, r, p, x, mid) {
-            hi = mid;
+        let low = lo + (mid - lo) / 2;
+        let high = mid + (hi - mid) / 2;
+        let a = is_not_before(tables, r, p, x, low);
+        let b = is_not_before(tables, r, p, x, mid);
+        let c = is_not_before(tables, r, p, x, high);
+        if b {
+            if a {
+                hi = low;
+            } else {
+                lo = low + 1;
+                hi = mid;
+            }
         } else {
-            lo = mid + 1;
+            if c {
+                lo = mid + 1;
+                hi = high;
+            } else {
+                lo = high + 1;
+            }
         }
     }
     lo
@@ -78,9 +90,7 @@ fn first_between(tables: &[u32], r: u32, p: u32, x: usize, from: u32, to: u32) -
 
 // That place, which is not after `to`: it is looked for there and just before, then by halving.
 fn first_down(tables: &[u32], r: u32, p: u32, x: usize, to: u32) -> u32
-    requires { ⌜ Accepted (now tables) ⌝ }
-    requires { ⌜ r < netOf (now tables) .routes ⌝ }
-    requires { ⌜ p < netOf (now tables) .positions r ⌝ }
+    requires { ⌜ Along (now tables) r p ⌝ }
     requires { ⌜ Bracket (notBefore (netOf (now tables)) r p x) (netOf (now tables) .trips r) 0 to ⌝ }
     ensures { λ i. ⌜ i ≡ firstNotBefore (netOf (now (tables .entry))) r p x ⌝ }
 {
@@ -103,9 +113,7 @@ fn first_down(tables: &[u32], r: u32, p: u32, x: usize, to: u32) -> u32
 
 // That place, which is not before `from`, nor after `to`: it is looked for there and just after, then by halving.
 fn first_up(tables: &[u32], r: u32, p: u32, x: usize, from: u32, to: u32) -> u32
-    requires { ⌜ Accepted (now tables) ⌝ }
-    requires { ⌜ r < netOf (now tables) .routes ⌝ }
-    requires { ⌜ p < netOf (now tables) .positions r ⌝ }
+    requires { ⌜ Along (now tables) r p ⌝ }
     requires { ⌜ Bracket (notBefore (netOf (now tables)) r p x) (netOf (now tables) .trips r) from to ⌝ }
     ensures { λ i. ⌜ i ≡ firstNotBefore (netOf (now (tables .entry))) r p x ⌝ }
 {
@@ -127,9 +135,7 @@ fn first_up(tables: &[u32], r: u32, p: u32, x: usize, from: u32, to: u32) -> u32
 // That place, looked for around `near` first, which may be any number. Along a route it is nearly always that of the trip aboard or one beside
 // it; only elsewhere the halving is paid for, in which each step waits for the one before.
 fn first_near(tables: &[u32], r: u32, p: u32, x: usize, near: usize) -> u32
-    requires { ⌜ Accepted (now tables) ⌝ }
-    requires { ⌜ r < netOf (now tables) .routes ⌝ }
-    requires { ⌜ p < netOf (now tables) .positions r ⌝ }
+    requires { ⌜ Along (now tables) r p ⌝ }
     ensures { λ i. ⌜ i ≡ firstNotBefore (netOf (now (tables .entry))) r p x ⌝ }
 {
     let n = repository::routes::trips_of_route(tables, r);

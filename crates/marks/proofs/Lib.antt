@@ -2,3 +2,4 @@
 pub mod Chosen
 pub mod Words
 pub mod Laws
+pub mod Stand

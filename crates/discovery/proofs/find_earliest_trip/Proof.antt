@@ -1,7 +1,7 @@
 -- `find_earliest_trip`: the place that was found, where it is one of the route.
 use borrow.Author.Needs.{needs}
 use Rattle.discovery.proofs.Earliest.{earliest-some, earliest-none}
-use Rattle.discovery.proofs.Near.{counted-in, none-in}
+use Rattle.discovery.proofs.Near.{along, counted-in, none-in}
 use Rattle.discovery.proofs.find_earliest_trip.Statement.{statement}
 use Rattle.discovery.proofs.find_earliest_trip.Tie as tie
 
@@ -9,7 +9,7 @@ cast-first-near : tie.Need-cast-first-near
 cast-first-near c = search needs
 
 first-near-requires : tie.Need-first-near-requires
-first-near-requires c κs = search needs
+first-near-requires c κs = search (needs, along)
 
 trips-of-route-requires : tie.Need-trips-of-route-requires
 trips-of-route-requires c κs = search needs

@@ -1,7 +1,7 @@
 -- `find_latest_trip`: the place before the one that was found.
 use borrow.Author.Needs.{needs}
 use Rattle.discovery.proofs.Latest.{latest-none, latest-in, latest-some}
-use Rattle.discovery.proofs.Near.{at-in, none-in}
+use Rattle.discovery.proofs.Near.{along, at-in, none-in}
 use Rattle.discovery.proofs.find_latest_trip.Statement.{statement}
 use Rattle.discovery.proofs.find_latest_trip.Tie as tie
 
@@ -15,7 +15,7 @@ add-first-near-2 : tie.Need-add-first-near-2
 add-first-near-2 c = search needs
 
 first-near-requires : tie.Need-first-near-requires
-first-near-requires c κs = search needs
+first-near-requires c κs = search (needs, along)
 
 returns : tie.Need-returns
 returns c = (search (needs, latest-none), search (needs, none-in))

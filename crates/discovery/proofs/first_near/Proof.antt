@@ -1,11 +1,11 @@
 -- `first_near`: each way begins with a bracket around the place that is looked for.
 use borrow.Author.Needs.{needs}
-use Rattle.discovery.proofs.Near.{whole, begin-down, begin-up}
+use Rattle.discovery.proofs.Near.{along-laid, whole, begin-down, begin-up}
 use Rattle.discovery.proofs.first_near.Statement.{statement}
 use Rattle.discovery.proofs.first_near.Tie as tie
 
 trips-of-route-requires : tie.Need-trips-of-route-requires
-trips-of-route-requires c κs = search needs
+trips-of-route-requires c κs = search (needs, along-laid)
 
 cast-if1 : tie.Need-cast-if1
 cast-if1 c = search needs
@@ -17,7 +17,7 @@ is-not-before-requires : tie.Need-is-not-before-requires
 is-not-before-requires c κs = search needs
 
 first-down-requires : tie.Need-first-down-requires
-first-down-requires c κs = (search needs, (search needs, (search needs, search (needs, begin-down))))
+first-down-requires c κs = (search needs, search (needs, begin-down))
 
 returns : tie.Need-returns
 returns c = search needs
@@ -26,13 +26,13 @@ add-first-up : tie.Need-add-first-up
 add-first-up c = search needs
 
 first-up-requires : tie.Need-first-up-requires
-first-up-requires c κs = (search needs, (search needs, (search needs, search (needs, begin-up))))
+first-up-requires c κs = (search needs, search (needs, begin-up))
 
 returns-2 : tie.Need-returns-2
 returns-2 c = search needs
 
 first-between-requires : tie.Need-first-between-requires
-first-between-requires c κs = (search needs, (search needs, (search needs, search (needs, whole))))
+first-between-requires c κs = (search needs, search (needs, whole))
 
 returns-3 : tie.Need-returns-3
 returns-3 c = search needs

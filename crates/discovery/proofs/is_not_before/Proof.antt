@@ -1,15 +1,15 @@
 -- `is_not_before`: the arrival that is read decides the test.
 use borrow.Author.Needs.{needs}
-use Rattle.repository.proofs.Trips.{place-of-trip, stands}
+use Rattle.discovery.proofs.Near.{along-laid, along-stands}
 use Rattle.discovery.proofs.Tests.{not-before-is}
 use Rattle.discovery.proofs.is_not_before.Statement.{statement}
 use Rattle.discovery.proofs.is_not_before.Tie as tie
 
 trip-at-requires : tie.Need-trip-at-requires
-trip-at-requires c κs = search needs
+trip-at-requires c κs = search (needs, along-laid)
 
 get-arrival-time-requires : tie.Need-get-arrival-time-requires
-get-arrival-time-requires c κs = search (needs, stands, place-of-trip)
+get-arrival-time-requires c κs = search (needs, along-laid, along-stands)
 
 cast-result : tie.Need-cast-result
 cast-result c = search needs
