@@ -1,5 +1,5 @@
 /* The Rust's kept answers (oracle/): everyone agrees with them, and with one another on the same queries in rescan mode. */
-#include "fuzz.h"
+#include "small.h"
 
 /* The answer as a line of answers.txt. */
 static void answer_line(const lent *l, char *out) {
