@@ -1,1 +1,2 @@
+-- The definitions that the contracts of how a round opens cite.
 pub mod Chosen

@@ -1,1 +1,2 @@
+-- The definitions that the contracts of the footpaths cite.
 pub mod Footing

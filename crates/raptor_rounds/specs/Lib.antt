@@ -1,3 +1,4 @@
+-- The definitions that the contracts of the round loop cite, and the laws in which they are used.
 pub mod Rounds
 pub mod Stops
 pub mod Targets

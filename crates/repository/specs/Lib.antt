@@ -1,3 +1,4 @@
+-- The layout of the tables, the network that they hold, and what each number of the check asks of them.
 pub mod Sections
 pub mod NetOf
 pub mod Laid

@@ -1,3 +1,4 @@
+-- `feed_all`: the bound on the value is kept from byte to byte.
 use borrow.Author.Needs.{needs}
 use Prim.Native.Nat.{_≤_, _-_}
 use mathlib.Core.Path.{_≡_}

@@ -1,3 +1,4 @@
+-- `main`: the input is read part by part, to its end.
 use borrow.Author.Needs.{needs}
 use Prim.Native.Nat.{_≤_}
 use mathlib.Core.Path.{_≡_}
