@@ -1,4 +1,4 @@
--- The five words of an answer, and what a call answers and leaves.
+-- What a call answers and leaves.
 use Prim.Native.Nat.{ℕ, zero, suc, _≤_, _<_}
 use mathlib.Core.Path.{_≡_, refl, sym, ap, _∙_, subst}
 use mathlib.Core.Bool.{Bool, true, false}
@@ -7,93 +7,20 @@ use native.Mathlib.Omega.{arith}
 use lib.Dec.{eqb}
 use lib.ListN.{length, drop, set, length-set}
 use borrow.Author.Tests.{eq-eqb, ne-eqb}
-use Rattle.shared.specs.declared.Time.{Time}
 use Rattle.model.specs.declared.Answer.{Answer}
-use Rattle.model.specs.declared.Answer.the-variants.{Found, Refused, NoRouteFound, FailedToBuildRoute, TooLong}
 use Rattle.model.specs.declared.Query.{Query}
-use Rattle.model.specs.Answer.{Given, given}
+use Rattle.model.specs.Answer.{given}
 use Rattle.repository.specs.Accepted.{Accepted}
 use Rattle.repository.specs.Checked.{checkOf}
 use Rattle.repository_check.proofs.Whole.{accepted-is}
 use Rattle.raptor.specs.Solved.{Solved}
 use Rattle.raptor.proofs.Promises.{length-most}
-use Rattle.kiosk_c.specs.Face.{toldIn, shortNumber, Faced}
+use Rattle.kiosk_words.specs.Words.{toldIn}
+use Rattle.kiosk_c.specs.Face.{shortNumber, Faced}
 
 -- a write leaves the length
-stays : (n i x : ℕ) (l : List ℕ) → n ≤ length l → n ≤ length (set l i x)
-stays n i x l h = omega (arith, length-set l i x)
-
 pub three-in : {k : ℕ} (i x : ℕ) (l : List ℕ) → 3 ≤ length l → k < 3 → k < length (set l i x)
-three-in i x l h g = omega (arith, stays 3 i x l h)
-
-pub five-stays : (i x : ℕ) (l : List ℕ) → 5 ≤ length l → 5 ≤ length (set l i x)
-five-stays i x l h = stays 5 i x l h
-
-pub five-in : {k : ℕ} (i x : ℕ) (l : List ℕ) → 5 ≤ length l → k < 5 → k < length (set l i x)
-five-in i x l h g = omega (arith, stays 5 i x l h)
-
-pub five : (a b c d e : ℕ) (l : List ℕ) → 5 ≤ length l
-    → set (set (set (set (set l 0 a) 1 b) 2 c) 3 d) 4 e ≡ a ∷ b ∷ c ∷ d ∷ e ∷ drop 5 l
-five a b c d e (v ∷ w ∷ x ∷ y ∷ z ∷ l) h = refl
-five a b c d e [] h = absurd (omega arith)
-five a b c d e (v ∷ []) h = absurd (omega arith)
-five a b c d e (v ∷ w ∷ []) h = absurd (omega arith)
-five a b c d e (v ∷ w ∷ x ∷ []) h = absurd (omega arith)
-five a b c d e (v ∷ w ∷ x ∷ y ∷ []) h = absurd (omega arith)
-
-module _ {a : Answer} where
-  module _ {t : Time} {s k z : ℕ} (e : a ≡ Found t s k z) where
-    pub found-few : (given a) .length < 4_294_967_296 → z < 4_294_967_296
-    unfolding given
-    found-few h = rw e at h
-
-    pub found-number : 0 ≡ (given a) .number
-    unfolding given
-    found-number = rw e
-
-    pub found-told : (l : List ℕ) {m : List ℕ} → m ≡ 0 ∷ t .0 ∷ s ∷ k ∷ z ∷ drop 5 l → m ≡ toldIn (given a) l
-    unfolding given toldIn
-    found-told l f = rw e f
-
-  module _ {x : ℕ} (e : a ≡ Refused x) where
-    pub refused-number : x ≡ (given a) .number
-    unfolding given
-    refused-number = rw e
-
-    pub refused-told : (l : List ℕ) {m : List ℕ} → m ≡ x ∷ 0 ∷ 0 ∷ 0 ∷ 0 ∷ drop 5 l → m ≡ toldIn (given a) l
-    unfolding given toldIn
-    refused-told l f = rw e f
-
-  module _ (e : a ≡ NoRouteFound) where
-    pub none-number : 10 ≡ (given a) .number
-    unfolding given
-    none-number = rw e
-
-    pub none-told : (l : List ℕ) {m : List ℕ} → m ≡ 10 ∷ 0 ∷ 0 ∷ 0 ∷ 0 ∷ drop 5 l → m ≡ toldIn (given a) l
-    unfolding given toldIn
-    none-told l f = rw e f
-
-  module _ (e : a ≡ FailedToBuildRoute) where
-    pub failed-number : 11 ≡ (given a) .number
-    unfolding given
-    failed-number = rw e
-
-    pub failed-told : (l : List ℕ) {m : List ℕ} → m ≡ 11 ∷ 0 ∷ 0 ∷ 0 ∷ 0 ∷ drop 5 l → m ≡ toldIn (given a) l
-    unfolding given toldIn
-    failed-told l f = rw e f
-
-  module _ {z : ℕ} (e : a ≡ TooLong z) where
-    pub long-few : (given a) .length < 4_294_967_296 → z < 4_294_967_296
-    unfolding given
-    long-few h = rw e at h
-
-    pub long-number : 12 ≡ (given a) .number
-    unfolding given
-    long-number = rw e
-
-    pub long-told : (l : List ℕ) {m : List ℕ} → m ≡ 12 ∷ 0 ∷ 0 ∷ 0 ∷ z ∷ drop 5 l → m ≡ toldIn (given a) l
-    unfolding given toldIn
-    long-told l f = rw e f
+three-in i x l h g = omega (arith, length-set l i x)
 
 -- ---- an answer that is too short
 

@@ -1,15 +1,13 @@
 -- Journey bytes through the C face: "13 journey bytes: unknown kind or cut body", with "only the offset of the bad leg's first byte"; and a leg
--- in six words: kind, from, to, trip, departure, arrival. A footpath has no trip: its fourth word is MAX.
+-- in six words.
 use Prim.Native.Nat.{ℕ}
 use mathlib.Core.Bool.{cond}
 use mathlib.Core.List.{List, _∷_}
 use lib.Dec.{leb}
 use lib.ListN.{length, drop}
 use Rattle.model.specs.declared.Leg.{Leg}
-use Rattle.model.specs.declared.LegType.{LegType}
-use Rattle.model.specs.declared.LegType.the-variants.{Transit, Transfer, Walk}
-use Rattle.model.specs.Moments.{MAX}
-use Rattle.model.specs.Bytes.{kindByte, legSize}
+use Rattle.model.specs.Bytes.{legSize}
+use Rattle.kiosk_words.specs.Words.{legIn}
 use Rattle.journey.specs.declared.LegRead.{LegRead}
 use Rattle.journey.specs.declared.LegRead.the-variants.{Whole, Bad as NoLeg, End}
 use Rattle.journey.specs.declared.Reading.{Reading}
@@ -29,15 +27,6 @@ readNumber x told = cond (leb 1 (length told)) (readKind x) 6
 
 unfoldable pub readLeft : Reading → List ℕ → List ℕ
 readLeft x told = cond (leb 1 (length told)) (readWord x ∷ drop 1 told) told
-
-unfoldable pub tripWord : LegType → ℕ
-tripWord (Transit v) = v
-tripWord Transfer = MAX
-tripWord Walk = MAX
-
--- a leg in the first six words
-unfoldable pub legIn : Leg → List ℕ → List ℕ
-legIn g leg = kindByte (g .kind) ∷ g .from ∷ g .to ∷ tripWord (g .kind) ∷ g .departure .0 ∷ g .arrival .0 ∷ drop 6 leg
 
 -- how many bytes the leg takes; 0 where no byte is left, 13 where there is none, 6 where there are not six words
 unfoldable pub legBytes : LegRead → ℕ

@@ -1,8 +1,8 @@
--- `kiosk_c::legs::tell_leg` meets its contract: each kind by its own two laws.
+-- `kiosk_words::tell_leg` meets its contract: each kind by its own two laws.
 use borrow.Author.Needs.{needs}
-use Rattle.kiosk_c.proofs.Reading.{ride-bytes, ride-words, transfer-bytes, transfer-words, walk-bytes, walk-words}
-use Rattle.kiosk_c.proofs.legs.tell_leg.Statement.{statement}
-use Rattle.kiosk_c.proofs.legs.tell_leg.Tie as tie
+use Rattle.kiosk_words.proofs.Legs.{ride-bytes, ride-words, transfer-bytes, transfer-words, walk-bytes, walk-words}
+use Rattle.kiosk_words.proofs.tell_leg.Statement.{statement}
+use Rattle.kiosk_words.proofs.tell_leg.Tie as tie
 
 enum-known-kind : tie.Need-enum-known-kind
 enum-known-kind c = search needs

@@ -1,8 +1,8 @@
--- `kiosk_c::legs::put_leg` meets its contract: six words, one after the other.
+-- `kiosk_words::put_leg` meets its contract: six words, one after the other.
 use borrow.Author.Needs.{needs}
-use Rattle.kiosk_c.proofs.Reading.{six-in, six-stays, six}
-use Rattle.kiosk_c.proofs.legs.put_leg.Statement.{statement}
-use Rattle.kiosk_c.proofs.legs.put_leg.Tie as tie
+use Rattle.kiosk_words.proofs.Legs.{six-in, six-stays, six}
+use Rattle.kiosk_words.proofs.put_leg.Statement.{statement}
+use Rattle.kiosk_words.proofs.put_leg.Tie as tie
 
 slice-write-leg : tie.Need-slice-write-leg
 slice-write-leg c = search needs

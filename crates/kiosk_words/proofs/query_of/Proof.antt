@@ -1,8 +1,8 @@
--- `kiosk_c::query_of` meets its contract: its parts.
+-- `kiosk_words::query_of` meets its contract: its parts.
 use borrow.Author.Needs.{needs}
-use Rattle.kiosk_c.proofs.Asked.{asked}
-use Rattle.kiosk_c.proofs.query_of.Statement.{statement}
-use Rattle.kiosk_c.proofs.query_of.Tie as tie
+use Rattle.kiosk_words.proofs.Asked.{asked}
+use Rattle.kiosk_words.proofs.query_of.Statement.{statement}
+use Rattle.kiosk_words.proofs.query_of.Tie as tie
 
 place-of-requires : tie.Need-place-of-requires
 place-of-requires c κs = search needs

@@ -14,7 +14,7 @@ use Rattle.model.specs.declared.TimeConstraint.{TimeConstraint}
 use Rattle.model.specs.declared.TimeConstraint.the-variants.{Departure, Arrival}
 use Rattle.model.specs.declared.Walks.{Walks}
 use Rattle.model.specs.declared.Walks.the-variants.{Unsaid, Allowed, Barred}
-use Rattle.kiosk_c.specs.Face.{placeOf, timeOf, walksOf, modeOf, queryOf}
+use Rattle.kiosk_words.specs.Words.{placeOf, timeOf, walksOf, modeOf, queryOf}
 
 module _ (kind at : ℕ) where
   pub is-stop : kind ≡ 0 → Stop at ≡ placeOf kind at

@@ -1,8 +1,8 @@
--- `kiosk_c::walks_of` meets its contract: word by word.
+-- `kiosk_words::walks_of` meets its contract: word by word.
 use borrow.Author.Needs.{needs}
-use Rattle.kiosk_c.proofs.Asked.{unsaid, allowed, barred}
-use Rattle.kiosk_c.proofs.walks_of.Statement.{statement}
-use Rattle.kiosk_c.proofs.walks_of.Tie as tie
+use Rattle.kiosk_words.proofs.Asked.{unsaid, allowed, barred}
+use Rattle.kiosk_words.proofs.walks_of.Statement.{statement}
+use Rattle.kiosk_words.proofs.walks_of.Tie as tie
 
 returns : tie.Need-returns
 returns c = search (needs, unsaid)

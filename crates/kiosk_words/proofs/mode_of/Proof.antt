@@ -1,8 +1,8 @@
--- `kiosk_c::mode_of` meets its contract: word by word.
+-- `kiosk_words::mode_of` meets its contract: word by word.
 use borrow.Author.Needs.{needs}
-use Rattle.kiosk_c.proofs.Asked.{source, rescan}
-use Rattle.kiosk_c.proofs.mode_of.Statement.{statement}
-use Rattle.kiosk_c.proofs.mode_of.Tie as tie
+use Rattle.kiosk_words.proofs.Asked.{source, rescan}
+use Rattle.kiosk_words.proofs.mode_of.Statement.{statement}
+use Rattle.kiosk_words.proofs.mode_of.Tie as tie
 
 returns : tie.Need-returns
 returns c = search (needs, source)

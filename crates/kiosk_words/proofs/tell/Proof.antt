@@ -1,8 +1,8 @@
--- `kiosk_c::tell` meets its contract: the five words of each answer.
+-- `kiosk_words::tell` meets its contract: the five words of each answer.
 use borrow.Author.Needs.{needs}
-use Rattle.kiosk_c.proofs.Told.{found-few, found-number, found-told, refused-number, refused-told, none-number, none-told, failed-number, failed-told, long-few, long-number, long-told}
-use Rattle.kiosk_c.proofs.tell.Statement.{statement}
-use Rattle.kiosk_c.proofs.tell.Tie as tie
+use Rattle.kiosk_words.proofs.Told.{found-few, found-number, found-told, refused-number, refused-told, none-number, none-told, failed-number, failed-told, long-few, long-number, long-told}
+use Rattle.kiosk_words.proofs.tell.Statement.{statement}
+use Rattle.kiosk_words.proofs.tell.Tie as tie
 
 enum-known-a : tie.Need-enum-known-a
 enum-known-a c = search needs

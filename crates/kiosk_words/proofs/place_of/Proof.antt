@@ -1,8 +1,8 @@
--- `kiosk_c::place_of` meets its contract: word by word.
+-- `kiosk_words::place_of` meets its contract: word by word.
 use borrow.Author.Needs.{needs}
-use Rattle.kiosk_c.proofs.Asked.{is-stop, is-area, is-nothing}
-use Rattle.kiosk_c.proofs.place_of.Statement.{statement}
-use Rattle.kiosk_c.proofs.place_of.Tie as tie
+use Rattle.kiosk_words.proofs.Asked.{is-stop, is-area, is-nothing}
+use Rattle.kiosk_words.proofs.place_of.Statement.{statement}
+use Rattle.kiosk_words.proofs.place_of.Tie as tie
 
 returns : tie.Need-returns
 returns c = search (needs, is-stop)

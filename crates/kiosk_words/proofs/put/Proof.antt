@@ -1,8 +1,8 @@
--- `kiosk_c::put` meets its contract: five words, one after the other.
+-- `kiosk_words::put` meets its contract: five words, one after the other.
 use borrow.Author.Needs.{needs}
-use Rattle.kiosk_c.proofs.Told.{five-in, five-stays, five}
-use Rattle.kiosk_c.proofs.put.Statement.{statement}
-use Rattle.kiosk_c.proofs.put.Tie as tie
+use Rattle.kiosk_words.proofs.Told.{five-in, five-stays, five}
+use Rattle.kiosk_words.proofs.put.Statement.{statement}
+use Rattle.kiosk_words.proofs.put.Tie as tie
 
 slice-write-answer : tie.Need-slice-write-answer
 slice-write-answer c = search needs

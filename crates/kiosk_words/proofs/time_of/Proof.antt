@@ -1,8 +1,8 @@
--- `kiosk_c::time_of` meets its contract: word by word.
+-- `kiosk_words::time_of` meets its contract: word by word.
 use borrow.Author.Needs.{needs}
-use Rattle.kiosk_c.proofs.Asked.{bad-when, bad-walks, bad-mode, departs, arrives}
-use Rattle.kiosk_c.proofs.time_of.Statement.{statement}
-use Rattle.kiosk_c.proofs.time_of.Tie as tie
+use Rattle.kiosk_words.proofs.Asked.{bad-when, bad-walks, bad-mode, departs, arrives}
+use Rattle.kiosk_words.proofs.time_of.Statement.{statement}
+use Rattle.kiosk_words.proofs.time_of.Tie as tie
 
 returns : tie.Need-returns
 returns c = search (needs, departs)

@@ -1,0 +1,56 @@
+-- The six words of a leg.
+use Prim.Native.Nat.{ℕ, zero, suc, _≤_, _<_}
+use mathlib.Core.Path.{_≡_, refl}
+use mathlib.Core.List.{List, [], _∷_}
+use native.Mathlib.Omega.{arith}
+use lib.ListN.{length, drop, set, length-set}
+use Rattle.model.specs.declared.Leg.{Leg}
+use Rattle.model.specs.declared.LegType.{LegType}
+use Rattle.model.specs.declared.LegType.the-variants.{Transit, Transfer, Walk}
+use Rattle.model.specs.Bytes.{kindByte, legSize}
+use Rattle.kiosk_words.specs.Words.{tripWord, legIn}
+
+-- a write leaves the length
+pub six-stays : (i x : ℕ) (l : List ℕ) → 6 ≤ length l → 6 ≤ length (set l i x)
+six-stays i x l h = omega (arith, length-set l i x)
+
+pub six-in : {k : ℕ} (i x : ℕ) (l : List ℕ) → 6 ≤ length l → k < 6 → k < length (set l i x)
+six-in i x l h g = omega (arith, length-set l i x)
+
+pub six : (a b c d e f : ℕ) (l : List ℕ) → 6 ≤ length l
+    → set (set (set (set (set (set l 0 a) 1 b) 2 c) 3 d) 4 e) 5 f ≡ a ∷ b ∷ c ∷ d ∷ e ∷ f ∷ drop 6 l
+six a b c d e f (u ∷ v ∷ w ∷ x ∷ y ∷ z ∷ l) h = refl
+six a b c d e f [] h = absurd (omega arith)
+six a b c d e f (v ∷ []) h = absurd (omega arith)
+six a b c d e f (v ∷ w ∷ []) h = absurd (omega arith)
+six a b c d e f (v ∷ w ∷ x ∷ []) h = absurd (omega arith)
+six a b c d e f (v ∷ w ∷ x ∷ y ∷ []) h = absurd (omega arith)
+six a b c d e f (v ∷ w ∷ x ∷ y ∷ z ∷ []) h = absurd (omega arith)
+
+module _ (g : Leg) where
+  pub ride-bytes : {v : ℕ} → g .kind ≡ Transit v → 21 ≡ legSize (g .kind)
+  unfolding legSize
+  ride-bytes e = rw e
+
+  pub transfer-bytes : g .kind ≡ Transfer → 17 ≡ legSize (g .kind)
+  unfolding legSize
+  transfer-bytes e = rw e
+
+  pub walk-bytes : g .kind ≡ Walk → 17 ≡ legSize (g .kind)
+  unfolding legSize
+  walk-bytes e = rw e
+
+  pub ride-words : {v : ℕ} → g .kind ≡ Transit v → (l : List ℕ) {m : List ℕ}
+      → m ≡ 1 ∷ g .from ∷ g .to ∷ v ∷ g .departure .0 ∷ g .arrival .0 ∷ drop 6 l → m ≡ legIn g l
+  unfolding legIn kindByte tripWord
+  ride-words e l f = rw e f
+
+  pub transfer-words : g .kind ≡ Transfer → (l : List ℕ) {m : List ℕ}
+      → m ≡ 2 ∷ g .from ∷ g .to ∷ 4_294_967_295 ∷ g .departure .0 ∷ g .arrival .0 ∷ drop 6 l → m ≡ legIn g l
+  unfolding legIn kindByte tripWord
+  transfer-words e l f = rw e f
+
+  pub walk-words : g .kind ≡ Walk → (l : List ℕ) {m : List ℕ}
+      → m ≡ 3 ∷ g .from ∷ g .to ∷ 4_294_967_295 ∷ g .departure .0 ∷ g .arrival .0 ∷ drop 6 l → m ≡ legIn g l
+  unfolding legIn kindByte tripWord
+  walk-words e l f = rw e f

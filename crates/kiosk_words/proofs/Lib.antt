@@ -1,0 +1,4 @@
+-- The laws behind the proofs of the words.
+pub mod Asked
+pub mod Told
+pub mod Legs
