@@ -24,8 +24,8 @@ the {len(edits)} edits take {all_edits // 60} minutes of one core, the {len(rows
 |---|---|---|---|
 """ + "\n".join(rows) + f"""
 
-The gate, `./test` in a fresh clone, took {took} on that machine: `{last[-1] if last else 'not ended'}`. It must end within 90 minutes, and is kept under
-40. Every crate is proved once, by `rt ci`; what is then compared with the Rust, plain C and bad input is what was proved.
+The gate, `./test` in a fresh clone, took {took} on that machine: `{last[-1] if last else 'not ended'}`. It must end within 90 minutes; it
+is to stay under 40. Every crate is proved once, by `rt ci`; what is then compared with the Rust, plain C and bad input is what was proved.
 """
 open("docs/CHECK-TIMES.md", "w", encoding="utf-8").write(page)
 print(f"{len(rows)} crates, {len(edits)} edits, {took}")
