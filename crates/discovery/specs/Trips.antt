@@ -17,7 +17,7 @@ unfoldable pub tripIn : Net → ℕ → Trip → Option ℕ
 tripIn n r (At i) = some (n .tripAt r i)
 tripIn n r Nothing = none
 
--- a place is one of the route's; each trip has one place there, so the trip tells it
+-- a place is one of the route's
 pub record InRoute (n : Net) (r : ℕ) (t : Trip) : Type 0 where
   pub within : (i : ℕ) → t ≡ At i → i < n .trips r
 
