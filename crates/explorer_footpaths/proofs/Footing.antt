@@ -6,11 +6,11 @@ use lib.ListN.{length}
 use Rattle.model.specs.declared.Leg.{Leg}
 use Rattle.model.specs.State.{Task, Times}
 use Rattle.model.specs.Tables.{Net}
-use Rattle.model.specs.Round.{Order, ridden}
+use Rattle.model.specs.Round.{Order, Fair, ridden}
 use Rattle.model.specs.Sound.{Sound}
 use Rattle.model.specs.Work.{workOf}
 use Rattle.model.proofs.Choosing.{Placed}
-use Rattle.model.proofs.Orders.{Fair, Whole}
+use Rattle.model.proofs.Orders.{Whole}
 use Rattle.model.proofs.Round.{marked, ridden-bound}
 use Rattle.allocator.specs.Parts.{withHeld, withHeldMark}
 use Rattle.allocator.specs.Operations.{holding}

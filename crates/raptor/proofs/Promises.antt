@@ -10,7 +10,7 @@ use native.Mathlib.Omega.{arith}
 use lib.Dec.{leb, eqb}
 use lib.ListN.{length, take, drop}
 use lib.Seq.{take-at, drop-at}
-use borrow.Author.Tests.{eqb-true, eqb-false, leb-true}
+use borrow.Author.Tests.{eqb-true, eqb-false, leb-true, leb-false}
 use Rattle.base.specs.Choice.{split, cond-elim}
 use Rattle.base.specs.Each.{Each}
 use Rattle.shared.specs.declared.Time.{Time}
@@ -23,38 +23,31 @@ use Rattle.model.specs.declared.TimeConstraint.{TimeConstraint}
 use Rattle.model.specs.declared.TimeConstraint.the-variants.{Departure, Arrival}
 use Rattle.model.specs.Tables.{Net}
 use Rattle.model.specs.State.{Task, Labels, Times, State}
-use Rattle.model.specs.Work.{Work, workOf}
+use Rattle.model.specs.Work.{Work, workOf, SameTimes}
 use Rattle.model.specs.Places.{placeStops}
-use Rattle.model.specs.Answer.{mayWalk, taskBy, taskOf, refusal, lowest, searched, legsOf, replyTo, reply, unless, answer, Given, given}
+use Rattle.model.specs.Answer.{mayWalk, taskOf, refusal, lowest, searched, legsBy, legsOf, replyTo, reply, unless, answer, Given, given, answerOf, ran}
 use Rattle.model.specs.Left.{Workspace, workspaceOf, written, journeyLeft}
-use Rattle.model.specs.Bytes.{legs as readAs, write, read, sizeOf}
-use Rattle.model.specs.Round.{Order, listed}
+use Rattle.model.specs.Bytes.{legs as readAs, write, read, sizeOf, Fits}
+use Rattle.model.specs.Round.{Order, Fair, listed}
 use Rattle.model.specs.Search.{search}
-use Rattle.model.specs.Back.{journey}
-use Rattle.model.specs.Journey.{Departing, Arriving, BothWays}
+use Rattle.model.specs.Journey.{Departing, Arriving, BothWays, Dated}
+use Rattle.model.specs.AskedFor.{AskedAt, AskedFor}
 use Rattle.model.specs.Sound.{Sound, Asked}
-use Rattle.model.proofs.Orders.{Fair, listed-fair, same-times}
+use Rattle.model.proofs.Orders.{listed-fair, same-times}
 use Rattle.model.proofs.Asking.{asked}
-use Rattle.model.proofs.Answers.{unrefused, never-11}
-use Rattle.model.proofs.Journeys.{chosen, in-rounds, bytes-at-most, departing, arriving}
-use Rattle.model.proofs.ReadBack.{Fits, size-is, read-write}
+use Rattle.model.proofs.Answers.{unrefused, never-11, lowest-most, answer-of, asked-for}
+use Rattle.model.proofs.Journeys.{chosen, in-rounds, bytes-at-most}
+use Rattle.model.proofs.Dated.{journey-dated}
+use Rattle.model.proofs.ReadBack.{size-is, read-write}
 use Rattle.model.proofs.Fitting.{journey-fits}
 use Rattle.repository.specs.Accepted.{Accepted}
 use Rattle.repository.specs.NetOf.{netOf}
 use Rattle.repository.specs.Checked.{checkOf}
 use Rattle.repository.proofs.Sound.{accepted-sound}
 use Rattle.repository.proofs.Narrow.{accepted-narrow}
-use Rattle.repository_check.proofs.Whole.{accepted-is}
+use Rattle.repository_check.proofs.Whole.{accepted-is, check-most}
 use Rattle.allocator.specs.Layout.{view}
 use Rattle.raptor.specs.Solved.{sized, holds, Ended, WorkspaceLeft, Solved}
-
--- whether an answer is that of a search, numbers 0 and 10 to 12, and not a refusal before it, 1 to 9
-abbrev pub ran : Answer → Bool
-ran (Found time s k z) = true
-ran (Refused x) = false
-ran NoRouteFound = true
-ran FailedToBuildRoute = true
-ran (TooLong z) = true
 
 -- what an answer 0 says of the target and of the legs
 record FoundBy (room : ℕ) (g : Target) (gs : List Leg) (time : Time) (s k z : ℕ) : Type 0 where
@@ -65,45 +58,43 @@ record FoundBy (room : ℕ) (g : Target) (gs : List Leg) (time : Time) (s k z : 
   chosen : 0 < g .time .0
   fits : z ≤ room
 
-found-by : (room : ℕ) (g : Target) (gs : List Leg) {time : Time} {s k z : ℕ} → reply room g gs ≡ Found time s k z
-    → FoundBy room g gs time s k z
+-- and what 12 says
+record LongBy (room : ℕ) (g : Target) (gs : List Leg) (z : ℕ) : Type 0 where
+  length-is : z ≡ sizeOf gs
+  chosen : 0 < g .time .0
+  over : room < z
+
+abbrev Tells : ℕ → Target → List Leg → Answer → Type 0
+Tells room g gs (Found time s k z) = FoundBy room g gs time s k z
+Tells room g gs (Refused x) = ⊥
+Tells room g gs NoRouteFound = g .time .0 ≡ 0
+Tells room g gs FailedToBuildRoute = 0 < g .time .0
+Tells room g gs (TooLong z) = LongBy room g gs z
+
+reply-tells : (room : ℕ) (g : Target) (gs : List Leg) → Tells room g gs (reply room g gs)
 unfolding reply replyTo
-found-by room g gs {time} {s} {k} {z} e =
-    split (eqb (g .time .0) 0)
-    (λ b. let f : NoRouteFound ≡ Found time s k z = rw b at e in let c : _≡_ {A = ℕ} 0 1 = cc in absurd (omega arith))
-    (λ b. let ne = eqb-false (g .time .0) 0 b in to gs (rw b at e) (omega arith))
+reply-tells room g gs =
+    cond-elim (Tells room g gs) (eqb (g .time .0) 0) _ _ (λ e. eqb-true (g .time .0) 0 e)
+    (λ e. let ne = eqb-false (g .time .0) 0 e in to gs (omega arith))
   where
-    to : (gs : List Leg) → replyTo room g gs ≡ Found time s k z → 0 < g .time .0 → FoundBy room g gs time s k z
-    to [] f h = let c : _≡_ {A = ℕ} 0 1 = cc in absurd (omega arith)
-    to (v ∷ vs) f h =
-        split (leb (sizeOf (v ∷ vs)) room)
-        (λ b. let d : Found (g .time) (g .stop) (g .round) (sizeOf (v ∷ vs)) ≡ Found time s k z = rw b at f in
-        let len : sizeOf (v ∷ vs) ≡ z = cc in
-        record {
-          time-is = cc;
-          stop-is = cc;
-          round-is = cc;
-          length-is = sym len;
+    to : (hs : List Leg) → 0 < g .time .0 → Tells room g hs (replyTo room g hs)
+    to [] h = h
+    to (v ∷ vs) h =
+        cond-elim (Tells room g (v ∷ vs)) (leb (sizeOf (v ∷ vs)) room) _ _
+        (λ b. record {
+          time-is = refl;
+          stop-is = refl;
+          round-is = refl;
+          length-is = refl;
           chosen = h;
-          fits = let l = leb-true (sizeOf (v ∷ vs)) room b in omega arith;
+          fits = leb-true (sizeOf (v ∷ vs)) room b;
         })
-        (λ b. let d : TooLong (sizeOf (v ∷ vs)) ≡ Found time s k z = rw b at f in let c : _≡_ {A = ℕ} 0 1 = cc in absurd (omega arith))
+        (λ b. record { length-is = refl; chosen = h; over = leb-false (sizeOf (v ∷ vs)) room b })
 
 fault-none : (c : ℕ) (b : Bool) (n : Net) (q : Query) → lowest c b n q ≡ 0 → c ≡ 0
 unfolding lowest
 fault-none zero b n q e = refl
 fault-none (suc c) b n q e = absurd (omega arith)
-
--- the times of a state, as the workspace holds them
-pub record SameTimes (v : Work) (m : Times) : Type 0 where
-  pub prev : v .prev ≡ m .prev
-  pub curr : v .labels .curr ≡ m .labels .curr
-  pub best : v .labels .best ≡ m .labels .best
-  pub mark : v .labels .mark ≡ m .labels .mark
-  pub held : v .held ≡ m .held
-  pub heldMark : v .heldMark ≡ m .heldMark
-  pub active : v .active ≡ m .active
-  pub mask : v .mask ≡ m .mask
 
 -- a search that has run is told by 0, 10, 11 or 12
 reply-ran : (room : ℕ) (g : Target) (gs : List Leg) → ran (reply room g gs) ≡ true
@@ -193,6 +184,33 @@ module _ (t : List ℕ) (q : Query) (w y p j : List ℕ) {r : Answer} {w′ y′
       go FailedToBuildRoute ne = refl
       go (TooLong z) ne = refl
 
+  -- a refusal before the search has a number from 1 to 9
+  pub refused-range : {x : ℕ} → r ≡ Refused x → (0 < x) × (x ≤ 9)
+  refused-range {x} e = go number refl
+    where
+      go : (k : ℕ) → number ≡ k → (0 < x) × (x ≤ 9)
+      go zero f = absurd (false≢true (sym (ap ran e) ∙ ap ran (told-by f) ∙ reply-ran (length j) goal (legsOf (netOf t) q)))
+      go (suc k) f =
+          let same : Refused x ≡ Refused (suc k) = sym e ∙ refused-by k f in
+          let is : x ≡ suc k = cc in
+          let most = lowest-most (checkOf t) (sized (netOf t) w y p) (netOf t) q (check-most t) in
+          (omega arith, omega arith)
+
+  -- "If an answer is an enum, a definition gives this paper's number and values": they are one answer, so every promise can be read with
+  -- numbers. 0 is `Found` with these values, 10 `NoRouteFound`, 12 `TooLong`, any other `Refused`
+  pub numbered : answerOf (given r) ≡ r
+  numbered = answer-of r (λ x e. refused-range e)
+
+  pub number-0 : (given r) .number ≡ 0
+      → r ≡ Found (record { 0 = (given r) .time }) ((given r) .stop) ((given r) .round) ((given r) .length)
+  number-0 e = sym numbered ∙ rw e
+
+  pub number-10 : (given r) .number ≡ 10 → r ≡ NoRouteFound
+  number-10 e = sym numbered ∙ rw e
+
+  pub number-12 : (given r) .number ≡ 12 → r ≡ TooLong ((given r) .length)
+  number-12 e = sym numbered ∙ rw e
+
   -- ==== what a search that has run rests on
   accepted : ran r ≡ true → Accepted t
   accepted b = accepted-is t .0 (fault-none (checkOf t) (sized (netOf t) w y p) (netOf t) q (none-refused b))
@@ -227,7 +245,7 @@ module _ (t : List ℕ) (q : Query) (w y p j : List ℕ) {r : Answer} {w′ y′
   -- ==== Demand 2: "Journeys are written to bytes and read back unchanged"
   module _ {time : Time} {s k z : ℕ} (e : r ≡ Found time s k z) where
     is-found : FoundBy (length j) goal (legsOf (netOf t) q) time s k z
-    is-found = found-by (length j) goal (legsOf (netOf t) q) (sym (told-by (none-refused (ap ran e))) ∙ e)
+    is-found = subst (Tells (length j) goal (legsOf (netOf t) q)) (sym (told-by (none-refused (ap ran e))) ∙ e) (reply-tells (length j) goal (legsOf (netOf t) q))
 
     left : j′ ≡ write (legsOf (netOf t) q) ++ drop (length (write (legsOf (netOf t) q))) j
     unfolding written
@@ -302,26 +320,62 @@ module _ (t : List ℕ) (q : Query) (w y p j : List ℕ) {r : Answer} {w′ y′
         told-by (none-refused b) ∙ ap (λ (m : Times). reply (length j) (m .target) (legsOf (netOf t) q)) same
 
   -- ==== Demand 3, the journey: "starts at an origin no sooner than asked, has one ride more than the round's number, rides listed trips,
-  -- uses only allowed listed footpaths, leaves no stop before reaching it, and ends at the chosen stop at the reported time"
-  module _ {time asked-at : Time} {s k z : ℕ} (e : r ≡ Found time s k z) where
-    pub departure-journey : q .time ≡ Departure asked-at
-        → Departing (netOf t) (mayWalk (q .walks)) (placeStops (netOf t) (q .from)) (asked-at .0) s (time .0) (suc k) (legsOf (netOf t) q)
-    unfolding legsOf searched taskOf taskBy
-    departure-journey f =
-        let b : ran r ≡ true = ap ran e in
+  -- uses only allowed listed footpaths, leaves no stop before reaching it, and ends at the chosen stop at the reported time". `AskedFor` has
+  -- these words for a departure query, and for an arrival query those of document 01
+
+  -- where a stop was chosen, 0 or 12, and whatever the order of the updates
+  module _ (b : ran r ≡ true) (c : 0 < goal .time .0) (o : Order) (fair : Fair o) where
+    aims : (searched (netOf t) q) .times .target ≡ (search (netOf t) (taskOf (netOf t) q) o) .times .target
+    aims = ap (λ (m : Times). m .target) (same b o fair)
+
+    traced : AskedFor (netOf t) q (goal .stop) (goal .time .0) (suc (goal .round)) (legsBy (netOf t) q o)
+    traced = rw aims (asked-for (netOf t) (accepted-sound (accepted b)) q (task-asked b) o fair (rw aims at c))
+
+    dated : Each Dated (legsBy (netOf t) q o)
+    dated =
+        journey-dated (netOf t) (accepted-sound (accepted b)) (accepted-narrow (accepted b)) (taskOf (netOf t) q) (task-asked b) o fair
+        (rw aims at c)
+
+  -- an answer 0
+  module _ {time : Time} {s k z : ℕ} (e : r ≡ Found time s k z) where
+    pub any-order-journey : (o : Order) → Fair o → AskedFor (netOf t) q s (time .0) (suc k) (legsBy (netOf t) q o)
+    any-order-journey o fair =
         let x = is-found e in
-        rw (x .stop-is, x .time-is, x .round-is, f)
-        (departing (netOf t) (accepted-sound (accepted b)) (q .mode) (mayWalk (q .walks)) (placeStops (netOf t) (q .from))
-        (placeStops (netOf t) (q .to)) (asked-at .0) (rw f at (task-asked b)) listed listed-fair (rw f at (x .chosen)))
+        rw (x .stop-is, x .time-is, x .round-is) (traced (ap ran e) (x .chosen) o fair)
+
+    -- no leg of it leaves or arrives at anything but a moment
+    pub journey-moments : (o : Order) → Fair o → Each Dated (legsBy (netOf t) q o)
+    journey-moments o fair = dated (ap ran e) (is-found e .chosen) o fair
+
+    -- the journey that is written is that of document 01's order
+    abbrev by-kind : TimeConstraint → Type 0
+    by-kind c =
+        AskedAt c (netOf t) (mayWalk (q .walks)) (placeStops (netOf t) (q .from)) (placeStops (netOf t) (q .to)) s (time .0) (suc k)
+        (legsOf (netOf t) q)
+
+    in-order : AskedFor (netOf t) q s (time .0) (suc k) (legsOf (netOf t) q)
+    unfolding legsOf searched
+    in-order = any-order-journey listed listed-fair
+
+    pub departure-journey : {asked-at : Time} → q .time ≡ Departure asked-at
+        → Departing (netOf t) (mayWalk (q .walks)) (placeStops (netOf t) (q .from)) (asked-at .0) s (time .0) (suc k) (legsOf (netOf t) q)
+    departure-journey f = subst by-kind f in-order
 
     -- "For arrival queries .. the journey part (end at a destination no later than asked, first departure as reported) needs each footpath
     -- listed both ways, as one kind and with one span."
-    pub arrival-journey : BothWays (netOf t) (mayWalk (q .walks)) → q .time ≡ Arrival asked-at
+    pub arrival-journey : {asked-at : Time} → BothWays (netOf t) (mayWalk (q .walks)) → q .time ≡ Arrival asked-at
         → Arriving (netOf t) (mayWalk (q .walks)) (placeStops (netOf t) (q .to)) (asked-at .0) s (time .0) (suc k) (legsOf (netOf t) q)
-    unfolding legsOf searched taskOf taskBy
-    arrival-journey both f =
-        let b : ran r ≡ true = ap ran e in
-        let x = is-found e in
-        rw (x .stop-is, x .time-is, x .round-is, f)
-        (arriving (netOf t) (accepted-sound (accepted b)) (q .mode) (mayWalk (q .walks)) (placeStops (netOf t) (q .to))
-        (placeStops (netOf t) (q .from)) (asked-at .0) both (rw f at (task-asked b)) listed listed-fair (rw f at (x .chosen)))
+    arrival-journey both f = (subst by-kind f in-order) both
+
+  -- an answer 12: the journey is one that the query asks for, from the stop that was chosen; only the buffer is too short for it
+  module _ {z : ℕ} (e : r ≡ TooLong z) where
+    is-long : LongBy (length j) goal (legsOf (netOf t) q) z
+    is-long = subst (Tells (length j) goal (legsOf (netOf t) q)) (sym (told-by (none-refused (ap ran e))) ∙ e) (reply-tells (length j) goal (legsOf (netOf t) q))
+
+    -- "12 only the length needed"
+    pub too-long-length : (z ≡ sizeOf (legsOf (netOf t) q)) × (length j < z)
+    too-long-length = (is-long .length-is, is-long .over)
+
+    pub too-long-journey : (o : Order) → Fair o
+        → AskedFor (netOf t) q (goal .stop) (goal .time .0) (suc (goal .round)) (legsBy (netOf t) q o)
+    too-long-journey o fair = traced (ap ran e) (is-long .chosen) o fair

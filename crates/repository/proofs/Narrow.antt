@@ -7,7 +7,7 @@ use Rattle.model.specs.declared.LegType.{LegType}
 use Rattle.model.specs.declared.LegType.the-variants.{Transit, Transfer, Walk}
 use Rattle.model.specs.Tables.{Foot}
 use Rattle.model.specs.Journey.{listedUnder}
-use Rattle.model.proofs.Fitting.{Narrow}
+use Rattle.model.specs.Sound.{Narrow}
 use Rattle.repository.specs.NetOf.{transferRow, walkRow, netOf}
 use Rattle.repository.specs.Accepted.{Accepted}
 use Rattle.repository.specs.Rows.{transfers, walks}

@@ -1,9 +1,10 @@
 -- The whole check: its number where each test stops it, and that the number says what document 01 has it say.
-use Prim.Native.Nat.{ℕ, zero, suc}
+use Prim.Native.Nat.{ℕ, zero, suc, _≤_}
 use mathlib.Core.Path.{_≡_, refl, sym, subst, _∙_}
 use mathlib.Core.Bool.{Bool, true, false, true≢false}
 use mathlib.Core.Logic.{_↔_}
 use mathlib.Core.List.{List}
+use native.Mathlib.Omega.{arith}
 use Rattle.base.specs.Choice.{split}
 use Rattle.repository.specs.NetOf.{netOf}
 use Rattle.repository.specs.Laid.{laid, Laid}
@@ -110,3 +111,16 @@ check-is k w = (λ e. subst (λ (j : ℕ). Says j w) e (said w), λ h. sym (give
 
 pub accepted-is : (w : List ℕ) → (checkOf w ≡ 0) ↔ Accepted w
 accepted-is w = check-is 0 w
+
+-- it has no other number
+pub check-most : (w : List ℕ) → checkOf w ≤ 5
+check-most w = go (checkOf w) (check-is (checkOf w) w .0 refl)
+  where
+    go : (k : ℕ) → Says k w → k ≤ 5
+    go zero h = omega arith
+    go (suc zero) h = omega arith
+    go (suc (suc zero)) h = omega arith
+    go (suc (suc (suc zero))) h = omega arith
+    go (suc (suc (suc (suc zero)))) h = omega arith
+    go (suc (suc (suc (suc (suc zero))))) h = omega arith
+    go (suc (suc (suc (suc (suc (suc k)))))) h = absurd h
