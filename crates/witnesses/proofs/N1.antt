@@ -1,0 +1,82 @@
+-- From words to an answer: on the accepted words of network N, `solve`'s contract gives N1's answer and legs, whatever was lent, and N10's. So the
+-- promises on tables, on departure queries and on orders are about something.
+use Prim.Native.Nat.{ℕ, suc, _≤_}
+use mathlib.Core.Path.{_≡_, refl, ap, _∙_, subst₂}
+use mathlib.Core.Bool.{Bool, true}
+use mathlib.Core.List.{List, [], _∷_}
+use lib.ListN.{length, take}
+use Rattle.base.specs.Each.{Each}
+use Rattle.model.specs.declared.Answer.{Answer}
+use Rattle.model.specs.declared.Answer.the-variants.{Found, TooLong}
+use Rattle.model.specs.declared.Leg.{Leg}
+use Rattle.model.specs.declared.Query.{Query}
+use Rattle.model.specs.Tables.{Net}
+use Rattle.model.specs.Bytes.{legs, write, read}
+use Rattle.model.specs.Answer.{mayWalk, searched, legsBy, answer}
+use Rattle.model.specs.Journey.{Departing, Dated}
+use Rattle.model.specs.AskedFor.{AskedFor}
+use Rattle.model.specs.Sound.{Sound, Narrow}
+use Rattle.repository.specs.Accepted.{Accepted}
+use Rattle.repository.specs.NetOf.{netOf}
+use Rattle.repository.specs.Checked.{checkOf}
+use Rattle.repository.proofs.Sound.{accepted-sound}
+use Rattle.repository.proofs.Narrow.{accepted-narrow}
+use Rattle.repository_check.proofs.Examples.{N, N-accepted}
+use Rattle.repository_check.proofs.Whole.{accepted-is}
+use Rattle.raptor.specs.Solved.{sized, Solved}
+use Rattle.raptor.proofs.Promises.{journey-bytes, reads-back, departure-journey, any-order-journey, journey-moments, too-long-journey}
+use Rattle.witnesses.proofs.Turned.{turned, turned-fair}
+use Rattle.witnesses.proofs.Computed.{from-0-at-50, N1-legs, N1-searched, N1-answered, N10-answered, N-places}
+
+-- `accepted-sound` and `accepted-narrow`, of words that are accepted
+pub N-words-sound : Sound (netOf N)
+N-words-sound = accepted-sound N-accepted
+
+pub N-words-narrow : Narrow (netOf N)
+N-words-narrow = accepted-narrow N-accepted
+
+-- a workspace of the lengths that the words ask for (`roomy` of Computed.antt)
+pub answered : (t : List ℕ) → Accepted t → (q : Query) {w y p j : List ℕ} {r : Answer} {w′ y′ p′ j′ : List ℕ} → Solved t q w y p j r w′ y′ p′ j′
+    → sized (netOf t) w y p ≡ true → r ≡ answer 0 true (netOf t) q (length j)
+answered t ok q {w} {y} {p} {j} h roomy =
+    h .answers
+    ∙ ap (λ (c : ℕ). answer c (sized (netOf t) w y p) (netOf t) q (length j)) (accepted-is t .1 ok)
+    ∙ ap (λ (b : Bool). answer 0 b (netOf t) q (length j)) roomy
+
+-- and a buffer of 59 bytes or more
+module _ {w y p j : List ℕ} {r : Answer} {w′ y′ p′ j′ : List ℕ} (h : Solved N from-0-at-50 w y p j r w′ y′ p′ j′)
+    (roomy : sized (netOf N) w y p ≡ true) (enough : 59 ≤ length j) where
+  -- "450, round 1" at stop 4, and "59 bytes"
+  pub N1-answer : r ≡ Found (record { 0 = 450 }) 4 1 59
+  N1-answer = answered N N-accepted from-0-at-50 h roomy ∙ N1-answered (length j) enough
+
+  -- the first 59 bytes of the buffer are the three legs, written
+  pub N1-written : take 59 j′ ≡ write N1-legs
+  N1-written = journey-bytes N from-0-at-50 w y p j h N1-answer ∙ ap write N1-searched
+
+  pub N1-read : read (take 59 j′) ≡ legs N1-legs
+  N1-read = reads-back N from-0-at-50 w y p j h N1-answer ∙ ap legs N1-searched
+
+  -- `departure-journey`, applied: they start at stop 0 not before 50 and come to stop 4 at 450 with two rides
+  pub N1-departs : Departing (netOf N) true (0 ∷ []) 50 4 450 2 N1-legs
+  unfolding mayWalk
+  N1-departs =
+      subst₂ (λ (ss : List ℕ) (gs : List Leg). Departing (netOf N) true ss 50 4 450 2 gs) N-places N1-searched
+      (departure-journey N from-0-at-50 w y p j h N1-answer refl)
+
+  -- `any-order-journey` and `journey-moments`, applied to the order in which every half-round's updates come last first
+  pub N1-turned : AskedFor (netOf N) from-0-at-50 4 450 2 (legsBy (netOf N) from-0-at-50 turned)
+  N1-turned = any-order-journey N from-0-at-50 w y p j h N1-answer turned turned-fair
+
+  pub N1-moments : Each Dated (legsBy (netOf N) from-0-at-50 turned)
+  N1-moments = journey-moments N from-0-at-50 w y p j h N1-answer turned turned-fair
+
+-- N10, "N1 with a buffer of 58 bytes": 12, and `too-long-journey`, applied
+module _ {w y p j : List ℕ} {r : Answer} {w′ y′ p′ j′ : List ℕ} (h : Solved N from-0-at-50 w y p j r w′ y′ p′ j′)
+    (roomy : sized (netOf N) w y p ≡ true) (short : length j ≡ 58) where
+  pub N10-answer : r ≡ TooLong 59
+  N10-answer = answered N N-accepted from-0-at-50 h roomy ∙ ap (answer 0 true (netOf N) from-0-at-50) short ∙ N10-answered
+
+  pub N10-journey : let g = (searched (netOf N) from-0-at-50) .times .target in
+      AskedFor (netOf N) from-0-at-50 (g .stop) (g .time .0) (suc (g .round)) (legsBy (netOf N) from-0-at-50 turned)
+  N10-journey = too-long-journey N from-0-at-50 w y p j h N10-answer turned turned-fair

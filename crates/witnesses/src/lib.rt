@@ -1,0 +1,1 @@
+// Worked networks, as words, that meet the hypotheses of the promises: no code.
