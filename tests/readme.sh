@@ -13,10 +13,12 @@ stands() {
 }
 ./kiosk 0 4 depart 50 >"$room/said"
 stands
-tools/drawing.py examples/N.txt <"$room/said" >"$room/N1.svg"
+tools/drawing.py --asked 50 examples/N.txt <"$room/said" >"$room/N1.svg"
 cmp "$room/N1.svg" docs/N1.svg
 tools/timetable.py examples/town.txt >"$room/town.net"
+tools/fault.py "$room/town.net" >"$room/said"
+stands
 ./kiosk 1 7 depart 6:55:00 tables:"$room/town.net" >"$room/said"
 stands
-[ $lines -eq 7 ] || { echo "README.md: $lines lines were printed"; exit 1; }
+[ $lines -eq 8 ] || { echo "README.md: $lines lines were printed"; exit 1; }
 echo "README.md: its commands print what it says"
