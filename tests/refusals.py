@@ -92,6 +92,10 @@ N1_LATER = re.sub(r"0(:\d\d:\d\d)", r"24\1", N1)
 # what `kiosk` printed, the status, and what is said of it
 JOURNEYS = [
     ("10: no route found\n", 1, "standard input: there is no journey to draw: `kiosk` said 10: no route found"),
+    ("10: no route found; and more of it\nFrom stop 0: stop 0.\n", 1,
+     "standard input: there is no journey to draw: `kiosk` said 10: no route found; and more of it"),
+    (N1.replace("0:05:30", "23:50:00 the day before"), 2,
+     "standard input, line 3: 23:50:00 the day before is before midnight, and a timetable has no such moment"),
     ("", 1, "standard input: there is no journey to draw: it is empty, as where `kiosk` says on the error stream why it found none"),
     ("tables: town.net cannot be read\n", 2, "standard input: there is no leg of a journey in it: give it what `kiosk` prints"),
     (N1.replace("trip 2", "trip 9"), 2, "standard input, line 4: the timetable has no trip 9: it has 4 trips"),

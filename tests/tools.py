@@ -61,8 +61,8 @@ def command(line, want, said="", given=b""):
     """A command run by the shell: its status, and what stands on the error stream."""
     global runs
     runs += 1
-    got = subprocess.run(["bash", "-c", line], input=given, stdout=subprocess.PIPE, stderr=subprocess.PIPE)
-    err = got.stderr.decode()
+    got = subprocess.run(["sh", "-c", line], input=given, stdout=subprocess.PIPE, stderr=subprocess.PIPE)
+    err = got.stderr.decode(errors="replace")
     expect(got.returncode == want and "Traceback" not in err and "Exception" not in err and said in err and (said or not err), line, "gave",
            got.returncode, err)
     return got.stdout.decode()
@@ -137,7 +137,11 @@ def refusals():
 def commands():
     """The tools as commands: statuses, pipes and streams that are closed or full."""
     command("tools/timetable.py examples/N.txt | tools/fault.py -", 0)
-    command("set -o pipefail; tools/timetable.py examples/town.txt | head -c 1", 0)
+    command("tools/timetable.py examples/town.txt | head -c 1", 0)
+    os.symlink(f"{HERE}/tools/fault.py", f"{room.name}/link")
+    command(f"'{room.name}/link' examples/N.txt", 2, "examples/N.txt, line 1: after 0 words, # is no number")
+    command("tools/timetable.py \"$(printf '\\377')\"", 2, "cannot be read: No such file or directory")
+    command("tools/timetable.py ''", 2, "'': cannot be read: No such file or directory")
     command("{ sleep 0.3; tools/timetable.py examples/town.txt; } | :", 0)
     command("{ sleep 0.3; tools/drawing.py examples/N.txt; } | :", 0, given=N1.encode())
     command("{ sleep 0.3; tools/fault.py --help; } | :", 0)

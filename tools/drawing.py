@@ -19,7 +19,8 @@ import timetable
 from manners import count
 from timetable import Wrong, clock
 
-LEG = re.compile(r"(?:ride trip ([0-9]+)|transfer|walk) from stop ([0-9]+) at (\S+) to stop ([0-9]+) at (\S+)")
+AT = r"stop ([0-9]+) at (\S+(?: the day before| [0-9]+ days before)?)"
+LEG = re.compile(f"(?:ride trip ([0-9]+)|transfer|walk) from {AT} to {AT}")
 ENDS = re.compile(r"Leave stop ([0-9]+) at (\S+), arrive at stop ([0-9]+) at (\S+?):? ")
 REFUSAL = re.compile(r"[0-9]+: .*")
 
@@ -43,6 +44,8 @@ class Journey:
         self.table, self.midnight, self.legs, self.ends = table, midnight, [], None
 
     def moment(self, text):
+        if text.endswith(" before"):
+            raise Wrong(f"{text} is before midnight, and a timetable has no such moment")
         value = timetable.moment(text)
         if value < self.midnight:
             raise Wrong(f"{text} is less than --midnight {self.midnight}: leave --midnight out where `kiosk` was asked with midnight:SECONDS")
@@ -97,8 +100,9 @@ def read_journey(table, midnight, lines):
             journey.add(text)
         except Wrong as why:
             raise manners.Refused("-", line, why)
-    if not journey.legs and said and REFUSAL.fullmatch(said[0]):
-        raise manners.Refused("-", None, f"there is no journey to draw: `kiosk` said {manners.shown(said[0])}", 1)
+    refusal = next(filter(REFUSAL.fullmatch, said), None)
+    if not journey.legs and refusal:
+        raise manners.Refused("-", None, f"there is no journey to draw: `kiosk` said {manners.shown(refusal, 200)}", 1)
     if not said:
         raise manners.Refused("-", None, "there is no journey to draw: it is empty, as where `kiosk` says on the error stream why it found none", 1)
     if not journey.legs:

@@ -26,13 +26,13 @@ class Refused(Exception):
 
 
 def named(path):
-    return "standard input" if path == "-" else path
+    return "standard input" if path == "-" else path or "''"
 
 
-def shown(text):
+def shown(text, most=40):
     """A word as a message shows it: no longer than a glance, and nothing in it that a terminal would act on."""
-    text = "".join(c if c.isprintable() else "?" for c in text[:41])
-    return text if len(text) < 41 else text[:40] + ".."
+    plain = "".join(c if c.isprintable() else "?" for c in text[:most])
+    return plain + ".." * (len(text) > most)
 
 
 def count(n, what):
