@@ -116,7 +116,8 @@ JOURNEYS = [
 ]
 TABLES = [
     ("20 25 x\n", ", line 1: after 2 words, x is no number"), ("net 20\n25 -1\n", ", line 2: after 2 words, -1 is no number"),
-    ("20 net\n", ", line 1: after 1 word, net is no number"),
+    ("20 net\n", ", line 1: after 1 word, net is no number"), ("net 20\t25\n", ", line 1: after 0 words, 20?25 is no number"),
+    ("\ufeffnet 20\n", ", line 1: after 0 words, ?net is no number"),
     ("stops 5\n", ", line 1: after 0 words, stops is no number: this looks like a timetable, and tools/timetable.py makes tables of it"),
     ("20 4294967296\n", ", line 1: after 1 word, 4294967296 is above 4294967295, the most that a word holds"),
     ("20 " + "9" * 5000, ", line 1: after 1 word, " + "9" * 40 + ".. is above 4294967295, the most that a word holds"),

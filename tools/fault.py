@@ -1,13 +1,12 @@
 #!/usr/bin/env python3
 """Says where the fault of a tables file stands: the number 1 to 5 of the library's check, the section, the row, the word and the rule.
+It is tested against that check (tests/tools.py), not proved: what is accepted, the library says.
 
     tools/fault.py TABLES                               the words as `kiosk` reads them; the file `-` is standard input
 
 It prints `0: these tables are accepted` (status 0); or the first fault of the lowest number, and how many more there are of it (status 1).
-Status 2: the file holds no words.
-
-This script is tested against the library's check, not proved (tests/tools.py): what is accepted, the library says. The sections are those of
-crates/repository/specs/Sections.antt, the rules those of Laid, Listed and Checked.antt beside it.
+Status 2: the file holds something else than words. The sections are those of crates/repository/specs/Sections.antt, the rules those of Laid.antt,
+Listed.antt and Checked.antt beside it.
 """
 import struct
 import sys
@@ -346,10 +345,11 @@ def read(path):
     """The words of a tables file: decimal numbers with spaces or line ends between them, and `net` before them or not."""
     words, first = [], True
     for line, text in enumerate(manners.lines(path), 1):
-        for word in text.split():
+        for word in filter(None, text.split(" ")):
             value = number(word)
             if value is None and not (first and word == "net"):
-                hint = ": this looks like a timetable, and tools/timetable.py makes tables of it" if not words else ""
+                timetable = first and (word == "stops" or word.startswith("#"))
+                hint = ": this looks like a timetable, and tools/timetable.py makes tables of it" if timetable else ""
                 raise manners.Refused(path, line, f"after {count(len(words), 'word')}, {shown(word)} is no number{hint}")
             if value is not None and value > MAX:
                 raise manners.Refused(path, line, f"after {count(len(words), 'word')}, {shown(word)} is above {MAX}, the most that a word holds")

@@ -94,7 +94,7 @@ def lines(path):
     if len(data) > MOST:
         raise Refused(path, None, f"is longer than {MOST:,} bytes, which nothing within the limits is")
     try:
-        text = data.decode("utf-8-sig")
+        text = data.decode("utf-8")
     except UnicodeDecodeError as why:
         before = why.object[:why.start].replace(b"\r\n", b"\n").replace(b"\r", b"\n")
         raise Refused(path, before.count(b"\n") + 1, "a byte that belongs to no text in UTF-8")

@@ -256,7 +256,7 @@ def read(path, table):
     """The timetable of a file."""
     for line in manners.lines(path):
         try:
-            table.add(line.split("#")[0].split())
+            table.add(line.lstrip("\ufeff").split("#")[0].split())     # some editors begin a file with this mark
         except Wrong as why:
             raise manners.Refused(path, table.line, why)
     if table.stops is None:
