@@ -259,6 +259,11 @@ def damaged(rng, w):
         return resized(rng, w)
     if rng.random() < 0.08:
         return w[:rng.randrange(len(w) + 1)] + [rng.randrange(30) for _ in range(rng.randrange(3))]
+    calls = [at for at in range(w[5], w[6], 3) if w[at + 1] != w[at + 2]]
+    if rng.random() < 0.1 and calls:                    # a stop that a route visits twice, with one of its positions unsaid
+        k = rng.choice(calls)
+        w[k + 1], w[k + 2] = rng.choice(((w[k + 1], w[k + 1]), (w[k + 2], w[k + 2])))
+        return w
     if rng.random() < 0.1 and w[15] - w[14] > 1:        # trips that change places: within a route they may be out of order
         k = rng.randrange(w[14], w[15] - 1)
         w[k], w[k + 1] = w[k + 1], w[k]
