@@ -12,7 +12,9 @@ use Rattle.model.specs.declared.Leg.{Leg}
 use Rattle.model.specs.declared.Query.{Query}
 use Rattle.model.specs.Tables.{Net}
 use Rattle.model.specs.Bytes.{legs, write, read}
-use Rattle.model.specs.Answer.{mayWalk, searched, legsBy, answer}
+use Rattle.model.specs.Answer.{mayWalk, taskOf, searched, legsBy, answer, ran}
+use Rattle.model.specs.Work.{SameTimes}
+use Rattle.model.specs.Search.{search}
 use Rattle.model.specs.Journey.{Departing, Dated}
 use Rattle.model.specs.AskedFor.{AskedFor}
 use Rattle.model.specs.Sound.{Sound, Narrow}
@@ -23,8 +25,9 @@ use Rattle.repository.proofs.Sound.{accepted-sound}
 use Rattle.repository.proofs.Narrow.{accepted-narrow}
 use Rattle.repository_check.proofs.Examples.{N, N-accepted}
 use Rattle.repository_check.proofs.Whole.{accepted-is}
+use Rattle.allocator.specs.Layout.{view}
 use Rattle.raptor.specs.Solved.{sized, Solved}
-use Rattle.raptor.proofs.Promises.{journey-bytes, reads-back, departure-journey, any-order-journey, journey-moments, too-long-journey}
+use Rattle.raptor.proofs.Promises.{journey-bytes, reads-back, departure-journey, any-order, any-order-journey, journey-moments, too-long-journey}
 use Rattle.witnesses.proofs.Turned.{turned, turned-fair}
 use Rattle.witnesses.proofs.Computed.{from-0-at-50, N1-legs, N1-searched, N1-answered, N10-answered, N-places}
 
@@ -64,7 +67,10 @@ module _ {w y p j : List ℕ} {r : Answer} {w′ y′ p′ j′ : List ℕ} (h :
       subst₂ (λ (ss : List ℕ) (gs : List Leg). Departing (netOf N) true ss 50 4 450 2 gs) N-places N1-searched
       (departure-journey N from-0-at-50 w y p j h N1-answer refl)
 
-  -- `any-order-journey` and `journey-moments`, applied to the order in which every half-round's updates come last first
+  -- `any-order`, `any-order-journey` and `journey-moments`, applied to the order in which every half-round's updates come last first
+  pub N1-same-times : SameTimes (view (netOf N .stops) (netOf N .routes) w′ y′) ((search (netOf N) (taskOf (netOf N) from-0-at-50) turned) .times)
+  N1-same-times = any-order N from-0-at-50 w y p j h (ap ran N1-answer) turned turned-fair
+
   pub N1-turned : AskedFor (netOf N) from-0-at-50 4 450 2 (legsBy (netOf N) from-0-at-50 turned)
   N1-turned = any-order-journey N from-0-at-50 w y p j h N1-answer turned turned-fair
 
