@@ -192,6 +192,11 @@ unfoldable pub C : Net
 unfolding with-places
 C = with-places 3 (one (1 ∷ 0 ∷ []) ((10, 10) ∷ (20, 20) ∷ []) ∷ []) (some 2 ∷ some 2 ∷ []) []
 
+-- both stops of a station on one route, behind another stop, the lower number first
+unfoldable pub D : Net
+unfolding with-places
+D = with-places 4 (one (2 ∷ 0 ∷ 1 ∷ []) ((10, 10) ∷ (20, 20) ∷ (30, 30) ∷ []) ∷ []) (some 3 ∷ some 3 ∷ []) []
+
 -- a transfer and a walk between the same stops, the walk shorter
 unfoldable pub W : Net
 unfolding with-feet

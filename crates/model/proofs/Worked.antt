@@ -23,14 +23,14 @@
 --   labels are swapped and the current ones cleared; marks are cleared E1, E3, E4, E5
 --   15 rounds                                                          X4, E4
 --   the first position of a stop                                       F1, X5
---   it replaces a route's mark if smaller, in arrivals if larger       C1
+--   it replaces a route's mark if smaller, in arrivals if larger       C1, D1
 --   marks filled once per query, in rescan before every round          X2, E1, E2
 --   only the routes that this round chose are scanned                  E1, E5
---   position 0 activates no route in arrivals                          X5, E3
+--   position 0 activates no route in arrivals                          E3
 --   the proposal at a position, then the boarding                      F1
---   the stop's best and the target's best in departures                X3, X12
+--   the target test in departures                                      X3
 --   no target test in arrivals                                         X3′
---   boarding by arrival, the first trip                                X2, X19, T1
+--   boarding by arrival, the first trip                                X2, X12, X19, T1
 --   the last trip in arrivals                                          T1
 --   no footpath before a ride                                          X22
 --   footpaths from the labels that the rides left                      X1, X21, E4
@@ -65,7 +65,7 @@ use Rattle.model.specs.Bytes.{write, read, readFrom, firstLeg, uncut, le
 use Rattle.model.specs.Answer.{Given, given, givenRead, answer, searched, legsOf}
 use Rattle.model.specs.Left.{Workspace, placed, workspaceOf, written, journeyLeft}
 use Rattle.model.proofs.Examples.{N, M, ask, departing, arriving, says, found, refused}
-use Rattle.model.proofs.Networks.{route, foot, line, X1, X2, X3, X3′, X5, X6, X7, X8a, X8b, X9a, X9b, X10, X11, X12, X17, X18, X19, X21, X22, X23, P, C, W, T, L, F, O}
+use Rattle.model.proofs.Networks.{route, foot, line, X1, X2, X3, X3′, X5, X6, X7, X8a, X8b, X9a, X9b, X10, X11, X12, X17, X18, X19, X21, X22, X23, P, C, D, W, T, L, F, O}
 
 -- The form of the list
 
@@ -114,6 +114,11 @@ unread at = record { number = 13; time = 0; stop = 0; round = 0; length = 0; off
 unfoldable pub metres : ℕ → Float
 unfolding ofBits
 metres bits = ofBits binary32 bits
+
+unfoldable pub walkSpans : List ℕ → List ℕ
+unfolding walkSpan walkingSpan metres
+walkSpans [] = []
+walkSpans (b ∷ bs) = walkSpan (metres b) ∷ walkSpans bs
 
 pub worked :
     Hold (
@@ -217,9 +222,12 @@ pub worked :
     -- P2: of goals reached at one moment the first in the list is chosen
     ∷ says P (leaving (Stop 0) (Area 2) 35) 100 is found 50 7 0 21
     ∷ says P (leaving (Stop 0) (Area 3) 35) 100 is found 50 1 0 21
-    -- C1: of a route's positions a departure search takes the smallest, an arrival search the largest
+    -- C1: of two positions in a route a departure search takes the smaller, though it comes second; an arrival search the larger, which comes first
     ∷ says C (departing Source 0 0 5) 100 is found 20 0 0 21
     ∷ says C (arriving 0 0 30) 100 is found 10 1 0 21
+    -- D1: the smaller, which comes first; the larger, though it comes second
+    ∷ says D (departing Source 0 0 5) 100 is found 30 1 0 21
+    ∷ says D (arriving 0 0 30) 100 is found 20 0 0 21
     -- W1: walks unsaid, allowed and barred
     ∷ says W (departing Source 0 2 5) 100 is found 25 2 0 38
     ∷ says W (ask Source Allowed (Departure (record { 0 = 5 })) (Stop 0) (Stop 2)) 100 is found 25 2 0 38
@@ -263,12 +271,9 @@ pub worked :
     ∷ [])
     × Hold (
     -- S1: "Metres to seconds: 0 to 0, 1.5 to 1, 1.6 to 2, 3 to 2, 100 to 67, 150 to 100."
-    (walkSpan (metres 0) ∷ walkSpan (metres 0x3FC0_0000) ∷ walkSpan (metres 0x3FCC_CCCD) ∷ walkSpan (metres 0x4040_0000)
-    ∷ walkSpan (metres 0x42C8_0000) ∷ walkSpan (metres 0x4316_0000) ∷ [])
-    is (0 ∷ 1 ∷ 2 ∷ 2 ∷ 67 ∷ 100 ∷ [])
+    walkSpans (0 ∷ 0x3FC0_0000 ∷ 0x3FCC_CCCD ∷ 0x4040_0000 ∷ 0x42C8_0000 ∷ 0x4316_0000 ∷ []) is (0 ∷ 1 ∷ 2 ∷ 2 ∷ 67 ∷ 100 ∷ [])
     -- S2: 100 metres with a span of 30 stated, of 0, and with none
-    ∷ (transferSpan 30 (metres 0x42C8_0000) ∷ transferSpan 0 (metres 0x42C8_0000) ∷ transferSpan MAX (metres 0x42C8_0000) ∷ [])
-    is (30 ∷ 0 ∷ 67 ∷ [])
+    ∷ (transferSpan 30 (metres 0x42C8_0000) ∷ transferSpan 0 (metres 0x42C8_0000) ∷ transferSpan MAX (metres 0x42C8_0000) ∷ []) is (30 ∷ 0 ∷ 67 ∷ [])
     -- P3: what is left in the places of the workspace: nothing of a stop, the served children of an area in the order of its stops
     ∷ placed P (Stop 1) is replicate 10 0
     ∷ placed P (Area 0) is (1 ∷ 2 ∷ replicate 8 0)
@@ -339,5 +344,5 @@ pub worked :
       goals = 0 ∷ [];
     }
     ∷ [])
-unfolding says departing arriving leaving coming found refused unread N M X1 X2 X3 X3′ line X5 X6 X7 X8a X8b X9a X9b X10 X11 X12 X17 X18 X19 X21 X22 X23 P C W T L F O ride transfer walk metres transferSpan walkSpan walkingSpan placed workspaceOf written journeyLeft givenRead read readFrom firstLeg uncut legIn legAt u32At before
+unfolding says departing arriving leaving coming found refused unread N M X1 X2 X3 X3′ line X5 X6 X7 X8a X8b X9a X9b X10 X11 X12 X17 X18 X19 X21 X22 X23 P C D W T L F O ride transfer walk walkSpans transferSpan placed workspaceOf written journeyLeft givenRead read readFrom firstLeg uncut legIn legAt u32At before
 worked = (refl, refl, refl, refl, refl)
