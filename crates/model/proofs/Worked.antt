@@ -211,8 +211,8 @@ pub worked :
     -- R13: journey bytes that are legs; an unknown kind, at the start and behind two legs; a cut body
     ∷ givenRead (read []) is refused 0 0
     ∷ givenRead (read (write (ride 0 2 0 100 300 ∷ transfer 2 3 300 330 ∷ []))) is refused 0 0
-    ∷ givenRead (read (0 ∷ [])) is unread 0
-    ∷ givenRead (read (write (ride 0 2 0 100 300 ∷ transfer 2 3 300 330 ∷ []) ++ 4 ∷ [])) is unread 38
+    ∷ givenRead (read (0 ∷ replicate 20 0)) is unread 0
+    ∷ givenRead (read (write (ride 0 2 0 100 300 ∷ transfer 2 3 300 330 ∷ []) ++ 4 ∷ replicate 20 0)) is unread 38
     ∷ givenRead (read (write (walk 0 2 100 300 ∷ []) ++ 3 ∷ replicate 15 0)) is unread 17
     -- P1: a stop is its station's children, and so is the station, and the area that names it; one of the children need not be served
     ∷ says P (departing Source 1 0 5) 100 is found 20 0 0 21
