@@ -3,13 +3,13 @@ use borrow.Author.Needs.{needs}
 use Prim.Native.Nat.{_-_}
 use mathlib.Core.Path.{_≡_}
 use lib.ListN.{length}
-use Rattle.repository_listing.proofs.Marking.{Marking, marking-start, mark-room, marked-twice, marking-on}
-use Rattle.repository_listing.proofs.Marking.{marked-all, marks-stand, marks-none}
+use Rattle.repository_listing.proofs.Marking.{Marking, marking-start, mark-room, marked-twice, left-twice, marking-on}
+use Rattle.repository_listing.proofs.Marking.{marked-all, left-all, marks-stand, marks-none}
 use Rattle.repository_listing.proofs.once.marked_once.Statement.{statement}
 use Rattle.repository_listing.proofs.once.marked_once.Tie as tie
 
 abbrev Inv-loop : tie.InvT-loop
-Inv-loop tables k a b marks₀ i₀ marks i = Marking tables k a b marks i × (length marks ≡ length marks₀)
+Inv-loop tables k a b marks₀ i₀ marks i = Marking tables k a b marks₀ marks i × (length marks ≡ length marks₀)
 
 abbrev μ-loop : tie.MeasureT-loop
 μ-loop tables k a b marks₀ i₀ marks i = b - i
@@ -33,7 +33,7 @@ same-length : tie.Need-same-length Inv-loop μ-loop
 same-length c = search needs
 
 returns : tie.Need-returns Inv-loop μ-loop
-returns c = (search (needs, marked-twice), marks-none)
+returns c = (search (needs, marked-twice), (search (needs, left-twice), marks-none))
 
 set-mark-requires : tie.Need-set-mark-requires Inv-loop μ-loop
 set-mark-requires c κs = search (needs, mark-room)
@@ -51,7 +51,7 @@ same-length-2 : tie.Need-same-length-2 Inv-loop μ-loop
 same-length-2 c = search needs
 
 returns-2 : tie.Need-returns-2 Inv-loop μ-loop
-returns-2 c = (search (needs, marked-all), search (needs, marks-stand))
+returns-2 c = (search (needs, marked-all), (search (needs, left-all), search (needs, marks-stand)))
 
 pub marked-once-spec : {M : Type 1} → statement M
 marked-once-spec =
