@@ -137,8 +137,11 @@ module _ (s r x : ℕ) (d : Direction) (w m u₁ u₂ : List ℕ) {v n : List �
   clear-tidy =
       let f = filled in
       record {
-        rows = rw (f .high) (rows-blank (15 * s));
-        stops = rw (f .none 0 (pages s) (omega arith)) (spare-none s (pages s));
-        held = rw (f .none (pages s) (pages s) (omega arith)) (spare-none s (pages s));
-        routes = rw (f .none (2 * pages s) (pages r) (omega arith)) (spare-none r (pages r));
+        known =
+            λ u. record {
+              rows = rw (f .high) (rows-blank (15 * s));
+              stops = rw (f .none 0 (pages s) (omega arith)) (spare-none s (pages s));
+              held = rw (f .none (pages s) (pages s) (omega arith)) (spare-none s (pages s));
+              routes = rw (f .none (2 * pages s) (pages r) (omega arith)) (spare-none r (pages r));
+            };
       }

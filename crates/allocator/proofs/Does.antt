@@ -6,7 +6,11 @@ use Prim.Native.Nat.{ℕ}
 use lib.ListN.{length}
 use Rattle.model.specs.Work.{Work}
 use Rattle.allocator.specs.Layout.{Sized, view}
-use Rattle.allocator.specs.Tidy.{Kept}
+use Rattle.allocator.specs.Tidy.{TidyParts}
+
+-- w′ and m′ are tidy where w and m are
+pub record Kept (s r : ℕ) (w m w′ m′ : List ℕ) : Type 0 where
+  pub tidy : TidyParts s r w m → TidyParts s r w′ m′
 
 -- w and m became v and n, and f says how the state changed
 pub record Does (s r : ℕ) (f : Work → Work) (w m v n : List ℕ) : Type 0 where

@@ -9,17 +9,17 @@ use lib.ListN.{length, set, replicate, length-replicate}
 use Rattle.marks.specs.Marks.{withMark as addMark}
 use Rattle.allocator.specs.Sections.{sect, put}
 use Rattle.allocator.specs.Layout.{pages, Sized, flags, markOf, heldMarkOf, maskOf, view}
-use Rattle.allocator.specs.Tidy.{Spare, Tidy, Kept}
+use Rattle.allocator.specs.Tidy.{Spare, TidyParts}
 use Rattle.allocator.specs.Parts.{withMark, withHeldMark, withMask}
 use Rattle.allocator.proofs.Sections.{Only, only-whole, sect-whole-put, sect-length, sect-before, sect-behind}
 use Rattle.allocator.proofs.Flagged.{mark-sect, only-mark, flags-more, spare-more, flags-none, spare-none}
 use Rattle.allocator.proofs.Changes.{change-mark, change-held-mark, change-mask}
-use Rattle.allocator.proofs.Does.{Does, marks-sized}
+use Rattle.allocator.proofs.Does.{Kept, Does, marks-sized}
 
 module _ (s r : ℕ) (w m : List ℕ) (z : Sized s r w m) where
   -- each section of the marks is as it was, or tidy again
   marks-kept : {n : List ℕ} → (Spare s (sect 0 (pages s) m) → Spare s (sect 0 (pages s) n))
-      → (Tidy s r w m → Spare s (sect (pages s) (pages s) n))
+      → (TidyParts s r w m → Spare s (sect (pages s) (pages s) n))
       → (Spare r (sect (2 * pages s) (pages r) m) → Spare r (sect (2 * pages s) (pages r) n)) → Kept s r w m w n
   marks-kept a b c = record {
     tidy = λ t. record { rows = t .rows; stops = a (t .stops); held = b t; routes = c (t .routes) };
@@ -33,7 +33,7 @@ module _ (s r : ℕ) (w m : List ℕ) (z : Sized s r w m) where
         let mask = sect-behind c (2 * pages s) (pages r) (omega arith) (omega arith) in
         marks-kept f (λ t. rw held (t .held)) (λ t. rw mask t)
 
-    held-kept : Only (pages s) (pages s) m n → (Tidy s r w m → Spare s (sect (pages s) (pages s) n)) → Kept s r w m w n
+    held-kept : Only (pages s) (pages s) m n → (TidyParts s r w m → Spare s (sect (pages s) (pages s) n)) → Kept s r w m w n
     held-kept c f =
         let stops = sect-before c 0 (pages s) (omega arith) (omega arith) in
         let mask = sect-behind c (2 * pages s) (pages r) (omega arith) (omega arith) in

@@ -7,11 +7,10 @@ use native.Mathlib.Omega.{arith}
 use lib.ListN.{length, set}
 use Rattle.allocator.specs.Sections.{put}
 use Rattle.allocator.specs.Layout.{Sized, prevOf, currOf, bestOf, heldOf, activeOf, view}
-use Rattle.allocator.specs.Tidy.{Kept}
 use Rattle.allocator.specs.Parts.{withPrev, withCurr, withBest, withHeld, withActive}
 use Rattle.allocator.proofs.Sections.{Only, only-set, only-whole, sect-whole-put, set-sect, sect-behind}
 use Rattle.allocator.proofs.Changes.{change-prev, change-curr, change-best, change-held, change-active}
-use Rattle.allocator.proofs.Does.{Does, words-sized}
+use Rattle.allocator.proofs.Does.{Kept, Does, words-sized}
 
 module _ (s r : ℕ) (w m : List ℕ) (z : Sized s r w m) where
   -- a change before the parents keeps them tidy

@@ -1,4 +1,4 @@
--- Laws that belong to no one function. A caller cites Visited, Keeping, Links, Same and Roomy.
+-- Laws that belong to no one function. A caller cites Visited, Links, Same, Unique and Roomy.
 pub mod Sections
 pub mod Tabulated
 pub mod Loops
@@ -15,7 +15,7 @@ pub mod DoesParent
 pub mod Operated
 pub mod Cleared
 pub mod Visited
-pub mod Keeping
 pub mod Links
 pub mod Same
+pub mod Unique
 pub mod Roomy

@@ -18,7 +18,7 @@ use Rattle.model.specs.Work.{Work}
 use Rattle.allocator.specs.Sections.{sect, put}
 use Rattle.allocator.specs.Rows.{legRow}
 use Rattle.allocator.specs.Layout.{pages, Sized, currOf, bestOf, activeOf, view}
-use Rattle.allocator.specs.Tidy.{Kept}
+use Rattle.allocator.specs.Tidy.{Tidy}
 use Rattle.allocator.specs.Parts.{withCurr, withBest, withMark, withHeld, withActive, withMask, withParents}
 use Rattle.allocator.specs.Operations.{blank, started, swapped, unmasked, refilled, chosenOf, withChosen, activated, unmarked, holding, stored, applied}
 use Rattle.allocator.proofs.Sections.{sect-length}
@@ -29,9 +29,9 @@ use Rattle.allocator.proofs.DoesMarks.{does-mark, does-mask, does-unmar
 use Rattle.allocator.proofs.DoesParent.{does-parent}
 
 -- as a contract says it
-pub both : {s r : ℕ} (f : Work → Work) {w m v n : List ℕ} → Does s r f w m v n
-    → (view s r v n ≡ f (view s r w m)) × Kept s r w m v n
-both f d = (d .is, d .kept)
+pub both : {s r : ℕ} (f : Work → Work) {w m v n : List ℕ} → Does s r f w m v n → Tidy s r w m
+    → (view s r v n ≡ f (view s r w m)) × Tidy s r v n
+both f d t = (d .is, record { known = λ u. d .kept .tidy (t .known u) })
 
 module _ (s r : ℕ) (w m : List ℕ) (z : Sized s r w m) where
   -- a change that is given by a value of the state is one of the state

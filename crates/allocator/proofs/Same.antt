@@ -113,7 +113,7 @@ module _ (s r : ℕ) (w m v n : List ℕ) (zw : Sized s r w m) (zv : Sized s r v
       (next (3 * s) s (4 * s) w v (omega arith) (ap (λ (x : Work). x .held) e)
       (next (4 * s) r o w v (omega arith) (ap (λ (x : Work). x .active) e)
       (next o (90 * s) (94 * s + r) w v (omega arith)
-      (rows-same (15 * s) (sect o (90 * s) w) (sect o (90 * s) v) (omega arith) (omega arith) (tw .rows) (tv .rows)
+      (rows-same (15 * s) (sect o (90 * s) w) (sect o (90 * s) v) (omega arith) (omega arith) (tw .known tt .rows) (tv .known tt .rows)
       (ap (λ (x : Work). x .parents) e))
       (past (94 * s + r) w v (omega arith) (omega arith)))))))
 
@@ -126,10 +126,10 @@ module _ (s r : ℕ) (w m v n : List ℕ) (zw : Sized s r w m) (zv : Sized s r v
       → flags k (sect o b m) ≡ flags k (sect o b n) → sect o b m ≡ sect o b n =
       λ k o b h. marks-same k (sect o b m) (sect o b n)
       (sect-length o b m (omega arith) ∙ sym (sect-length o b n (omega arith))) in
-      next 0 p p m n (omega arith) (part s 0 p (omega arith) (tw .stops) (tv .stops) (ap (λ (x : Work). x .labels .mark) e))
-      (next p p (2 * p) m n (omega arith) (part s p p (omega arith) (tw .held) (tv .held) (ap (λ (x : Work). x .heldMark) e))
+      next 0 p p m n (omega arith) (part s 0 p (omega arith) (tw .known tt .stops) (tv .known tt .stops) (ap (λ (x : Work). x .labels .mark) e))
+      (next p p (2 * p) m n (omega arith) (part s p p (omega arith) (tw .known tt .held) (tv .known tt .held) (ap (λ (x : Work). x .heldMark) e))
       (next (2 * p) q (2 * p + q) m n (omega arith)
-      (part r (2 * p) q (omega arith) (tw .routes) (tv .routes) (ap (λ (x : Work). x .mask) e))
+      (part r (2 * p) q (omega arith) (tw .known tt .routes) (tv .known tt .routes) (ap (λ (x : Work). x .mask) e))
       (past (2 * p + q) m n (omega arith) (omega arith))))
 
   -- so what a contract says of the view it says of everything lent

@@ -19,12 +19,12 @@ pub record Spare (n : ℕ) (x : List ℕ) : Type 0 where
   pub clear : (t : ℕ) → n ≤ t → t < 64 * length x → marked x t ≡ false
   pub fits : (i : ℕ) → getD x i 0 < 2 ^ 64
 
-pub record Tidy (s r : ℕ) (w m : List ℕ) : Type 0 where
+pub record TidyParts (s r : ℕ) (w m : List ℕ) : Type 0 where
   pub rows : Rows (15 * s) (sect (4 * s + r) (90 * s) w)
   pub stops : Spare s (sect 0 (pages s) m)
   pub held : Spare s (sect (pages s) (pages s) m)
   pub routes : Spare r (sect (2 * pages s) (pages r) m)
 
--- what an operation promises that finds w and m and leaves w′ and m′
-pub record Kept (s r : ℕ) (w m w′ m′ : List ℕ) : Type 0 where
-  pub tidy : Tidy s r w m → Tidy s r w′ m′
+-- these four stand behind a function, so that only who asks for them has them
+pub record Tidy (s r : ℕ) (w m : List ℕ) : Type 0 where
+  pub known : Unit {0} → TidyParts s r w m

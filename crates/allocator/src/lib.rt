@@ -15,7 +15,7 @@ ghost use Rattle.model.specs.Moments.{better};
 ghost use Rattle.allocator.specs.Sections.{sect, put};
 ghost use Rattle.allocator.specs.Rows.{kindWord, tripWord, legRow, legIn, decoded, parentOf};
 ghost use Rattle.allocator.specs.Layout.{pages, wordsRoom, marksRoom, Words, Marks, Sized, view, prevOf, currOf, bestOf, heldOf, activeOf, parentsOf, markOf, heldMarkOf, maskOf};
-ghost use Rattle.allocator.specs.Tidy.{Tidy, Kept};
+ghost use Rattle.allocator.specs.Tidy.{Tidy};
 ghost use Rattle.allocator.specs.Operations.{blank, cleared, started, swapped, unmasked, refilled, activated, unmarked, holding, stored, applied};
 ghost use Rattle.allocator.specs.Marked.{after};
 use marks::Next;
@@ -315,10 +315,11 @@ pub fn clear(words: &mut [u32], marks: &mut [u64], n: u32, m: u32, d: Direction)
 // A start stop gets the query moment as current label and a mark. Its best moment stays absent.
 pub fn start(words: &mut [u32], marks: &mut [u64], n: u32, m: u32, s: u32, t: Time)
     requires { ⌜ Sized n m (now words) (now marks) ⌝ }
+    requires { ⌜ Tidy n m (now words) (now marks) ⌝ }
     requires { ⌜ s < n ⌝ }
     ensures { λ _. ⌜ view n m (now (words .exit)) (now (marks .exit))
         ≡ started s (t .0) (view n m (now (words .entry)) (now (marks .entry))) ⌝ }
-    ensures { λ _. ⌜ Kept n m (now (words .entry)) (now (marks .entry)) (now (words .exit)) (now (marks .exit)) ⌝ }
+    ensures { λ _. ⌜ Tidy n m (now (words .exit)) (now (marks .exit)) ⌝ }
 {
     let at = n as usize + s as usize;
     words[at] = t.0;
@@ -330,9 +331,10 @@ pub fn start(words: &mut [u32], marks: &mut [u64], n: u32, m: u32, s: u32, t: Ti
 // The current labels become the previous ones, and no stop has a current label.
 pub fn swap_labels(words: &mut [u32], marks: &mut [u64], n: u32, m: u32)
     requires { ⌜ Sized n m (now words) (now marks) ⌝ }
+    requires { ⌜ Tidy n m (now words) (now marks) ⌝ }
     ensures { λ _. ⌜ view n m (now (words .exit)) (now (marks .exit))
         ≡ swapped n (view n m (now (words .entry)) (now (marks .entry))) ⌝ }
-    ensures { λ _. ⌜ Kept n m (now (words .entry)) (now (marks .entry)) (now (words .exit)) (now (marks .exit)) ⌝ }
+    ensures { λ _. ⌜ Tidy n m (now (words .exit)) (now (marks .exit)) ⌝ }
 {
     let a = n as usize;
     let e = 2 * a;
@@ -343,9 +345,10 @@ pub fn swap_labels(words: &mut [u32], marks: &mut [u64], n: u32, m: u32)
 // Fills the routes' marks again, where the mode asks for it before every round.
 pub fn refill(words: &mut [u32], marks: &mut [u64], n: u32, m: u32, mode: Mode, d: Direction)
     requires { ⌜ Sized n m (now words) (now marks) ⌝ }
+    requires { ⌜ Tidy n m (now words) (now marks) ⌝ }
     ensures { λ _. ⌜ view n m (now (words .exit)) (now (marks .exit))
         ≡ refilled mode m d (view n m (now (words .entry)) (now (marks .entry))) ⌝ }
-    ensures { λ _. ⌜ Kept n m (now (words .entry)) (now (marks .entry)) (now (words .exit)) (now (marks .exit)) ⌝ }
+    ensures { λ _. ⌜ Tidy n m (now (words .exit)) (now (marks .exit)) ⌝ }
 {
     let a = 4 * (n as usize);
     let e = a + m as usize;
@@ -358,9 +361,10 @@ pub fn refill(words: &mut [u32], marks: &mut [u64], n: u32, m: u32, mode: Mode, 
 // No route is to be scanned.
 pub fn clear_mask(words: &mut [u32], marks: &mut [u64], n: u32, m: u32)
     requires { ⌜ Sized n m (now words) (now marks) ⌝ }
+    requires { ⌜ Tidy n m (now words) (now marks) ⌝ }
     ensures { λ _. ⌜ view n m (now (words .exit)) (now (marks .exit))
         ≡ unmasked m (view n m (now (words .entry)) (now (marks .entry))) ⌝ }
-    ensures { λ _. ⌜ Kept n m (now (words .entry)) (now (marks .entry)) (now (words .exit)) (now (marks .exit)) ⌝ }
+    ensures { λ _. ⌜ Tidy n m (now (words .exit)) (now (marks .exit)) ⌝ }
 {
     let a = 2 * pages_of(n);
     let e = a + pages_of(m);
@@ -377,9 +381,10 @@ pub fn begin_choosing(
     d: Direction,
 )
     requires { ⌜ Sized n m (now words) (now marks) ⌝ }
+    requires { ⌜ Tidy n m (now words) (now marks) ⌝ }
     ensures { λ _. ⌜ view n m (now (words .exit)) (now (marks .exit))
         ≡ unmasked m (refilled mode m d (view n m (now (words .entry)) (now (marks .entry)))) ⌝ }
-    ensures { λ _. ⌜ Kept n m (now (words .entry)) (now (marks .entry)) (now (words .exit)) (now (marks .exit)) ⌝ }
+    ensures { λ _. ⌜ Tidy n m (now (words .exit)) (now (marks .exit)) ⌝ }
 {
     refill(words, marks, n, m, mode, d);
     clear_mask(words, marks, n, m);
@@ -389,10 +394,11 @@ pub fn begin_choosing(
 // scanned in this round, where p is sooner.
 pub fn activate(words: &mut [u32], marks: &mut [u64], n: u32, m: u32, d: Direction, r: u32, p: u32)
     requires { ⌜ Sized n m (now words) (now marks) ⌝ }
+    requires { ⌜ Tidy n m (now words) (now marks) ⌝ }
     requires { ⌜ r < m ⌝ }
     ensures { λ _. ⌜ view n m (now (words .exit)) (now (marks .exit))
         ≡ activated d r p (view n m (now (words .entry)) (now (marks .entry))) ⌝ }
-    ensures { λ _. ⌜ Kept n m (now (words .entry)) (now (marks .entry)) (now (words .exit)) (now (marks .exit)) ⌝ }
+    ensures { λ _. ⌜ Tidy n m (now (words .exit)) (now (marks .exit)) ⌝ }
 {
     let mark = active_at(words, n, m, r);
     if is_sooner(d, p, mark) {
@@ -406,9 +412,10 @@ pub fn activate(words: &mut [u32], marks: &mut [u64], n: u32, m: u32, d: Directi
 // No stop is marked.
 pub fn clear_marks(words: &mut [u32], marks: &mut [u64], n: u32, m: u32)
     requires { ⌜ Sized n m (now words) (now marks) ⌝ }
+    requires { ⌜ Tidy n m (now words) (now marks) ⌝ }
     ensures { λ _. ⌜ view n m (now (words .exit)) (now (marks .exit))
         ≡ unmarked n (view n m (now (words .entry)) (now (marks .entry))) ⌝ }
-    ensures { λ _. ⌜ Kept n m (now (words .entry)) (now (marks .entry)) (now (words .exit)) (now (marks .exit)) ⌝ }
+    ensures { λ _. ⌜ Tidy n m (now (words .exit)) (now (marks .exit)) ⌝ }
 {
     let e = pages_of(n);
     clear_part(marks, 0, e);
@@ -419,9 +426,10 @@ pub fn clear_marks(words: &mut [u32], marks: &mut [u64], n: u32, m: u32)
 // Holds the current labels and the marks as the rides left them: footpaths are made from these.
 pub fn hold(words: &mut [u32], marks: &mut [u64], n: u32, m: u32)
     requires { ⌜ Sized n m (now words) (now marks) ⌝ }
+    requires { ⌜ Tidy n m (now words) (now marks) ⌝ }
     ensures { λ _. ⌜ view n m (now (words .exit)) (now (marks .exit))
         ≡ holding (view n m (now (words .entry)) (now (marks .entry))) ⌝ }
-    ensures { λ _. ⌜ Kept n m (now (words .entry)) (now (marks .entry)) (now (words .exit)) (now (marks .exit)) ⌝ }
+    ensures { λ _. ⌜ Tidy n m (now (words .exit)) (now (marks .exit)) ⌝ }
 {
     let a = n as usize;
     let b = 3 * a;
@@ -469,11 +477,12 @@ fn put_leg(words: &mut [u32], i: usize, g: Leg)
 // Stop s is reached at moment t by the leg g, in round k.
 fn store(words: &mut [u32], marks: &mut [u64], n: u32, m: u32, k: u32, s: u32, t: Time, g: Leg)
     requires { ⌜ Sized n m (now words) (now marks) ⌝ }
+    requires { ⌜ Tidy n m (now words) (now marks) ⌝ }
     requires { ⌜ s < n ⌝ }
     requires { ⌜ k < 15 ⌝ }
     ensures { λ _. ⌜ view n m (now (words .exit)) (now (marks .exit))
         ≡ stored (k * n) s (t .0) g (view n m (now (words .entry)) (now (marks .entry))) ⌝ }
-    ensures { λ _. ⌜ Kept n m (now (words .entry)) (now (marks .entry)) (now (words .exit)) (now (marks .exit)) ⌝ }
+    ensures { λ _. ⌜ Tidy n m (now (words .exit)) (now (marks .exit)) ⌝ }
 {
     let a = n as usize + s as usize;
     let b = 2 * (n as usize) + s as usize;
@@ -497,11 +506,12 @@ pub fn apply(
     g: Leg,
 )
     requires { ⌜ Sized n m (now words) (now marks) ⌝ }
+    requires { ⌜ Tidy n m (now words) (now marks) ⌝ }
     requires { ⌜ s < n ⌝ }
     requires { ⌜ k < 15 ⌝ }
     ensures { λ _. ⌜ view n m (now (words .exit)) (now (marks .exit))
         ≡ applied d (k * n) s (t .0) g (view n m (now (words .entry)) (now (marks .entry))) ⌝ }
-    ensures { λ _. ⌜ Kept n m (now (words .entry)) (now (marks .entry)) (now (words .exit)) (now (marks .exit)) ⌝ }
+    ensures { λ _. ⌜ Tidy n m (now (words .exit)) (now (marks .exit)) ⌝ }
 {
     let best = best_at(words, n, m, s);
     if is_better(d, t, best) {

@@ -5,13 +5,14 @@ use mathlib.Core.Bool.{true, false}
 use mathlib.Core.Option.{none, some}
 use native.Mathlib.Omega.{arith}
 use native.Mathlib.Decide.{decLt}
+use borrow.Author.Tests.{lt-ltb, le-ltb}
 use Rattle.base.specs.First.{first}
 use Rattle.model.specs.declared.Direction.the-variants.{Departure}
 use Rattle.model.specs.Lists.{upto}
 use Rattle.model.specs.Tables.{Net}
 use Rattle.model.specs.Rides.{firstTrip, catch}
 use Rattle.discovery.specs.declared.Trip.the-variants.{At, Nothing}
-use Rattle.discovery.specs.Trips.{tripIn, notBefore, firstNotBefore}
+use Rattle.discovery.specs.Trips.{tripIn, notBefore, firstNotBefore, placeOf}
 use Rattle.discovery.proofs.Firsts.{first-fails, first-passes}
 
 module _ (n : Net) (r p x : ℕ) where
@@ -34,6 +35,14 @@ module _ (n : Net) (r p x : ℕ) where
       rw (b i (omega arith) (omega arith)) (first-none k (suc i) (λ j h g. b j (omega arith) (omega arith)))
 
   module _ {i m : ℕ} (e : i ≡ firstNotBefore n r p x) (f : m ≡ n .trips r) where
+    pub earliest-at : i < m → At i ≡ placeOf Departure n r p x
+    unfolding placeOf
+    earliest-at l = rw (← e, ← f, lt-ltb i m l)
+
+    pub earliest-past : m ≤ i → Nothing ≡ placeOf Departure n r p x
+    unfolding placeOf
+    earliest-past l = rw (← e, ← f, le-ltb i m l)
+
     pub earliest-some : i < m → tripIn n r (At i) ≡ catch Departure n r p x
     unfolding firstNotBefore tripIn catch
     earliest-some l =

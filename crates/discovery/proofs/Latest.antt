@@ -17,7 +17,7 @@ use Rattle.model.specs.Tables.{Net}
 use Rattle.model.specs.Rides.{lastTrip, catch}
 use Rattle.repository.specs.Accepted.{Ordered}
 use Rattle.discovery.specs.declared.Trip.the-variants.{At, Nothing}
-use Rattle.discovery.specs.Trips.{tripIn, notBefore, firstNotBefore}
+use Rattle.discovery.specs.Trips.{tripIn, notBefore, firstNotBefore, before, placeOf}
 use Rattle.discovery.proofs.Firsts.{first-fails, first-passes, first-most}
 use Rattle.discovery.proofs.Tests.{not-before-rising}
 
@@ -96,3 +96,22 @@ module _ (n : Net) (r p x : ℕ) where
     latest-some z =
         sym (last-some (n .trips r) 0 (i - 1) none (omega arith) (omega (arith, latest-in z))
         (λ j h c. fails j (omega arith)) (λ j h c. passes j (omega arith) (omega arith)))
+
+-- ---- the place
+before-none : (i : ℕ) → i ≡ 0 → Nothing ≡ before i
+unfolding before
+before-none i z = rw z
+
+before-one : (i : ℕ) → (i ≡ 0 → ⊥) → At (i - 1) ≡ before i
+unfolding before
+before-one zero z = absurd (z refl)
+before-one (suc i) z = let less : suc i - 1 ≡ i = omega arith in rw less
+
+module _ (n : Net) (r p x : ℕ) {i : ℕ} (e : i ≡ firstNotBefore n r p (x + 1)) where
+  pub latest-past : i ≡ 0 → Nothing ≡ placeOf Arrival n r p x
+  unfolding placeOf
+  latest-past z = rw (← e) (before-none i z)
+
+  pub latest-at : (i ≡ 0 → ⊥) → At (i - 1) ≡ placeOf Arrival n r p x
+  unfolding placeOf
+  latest-at z = rw (← e) (before-one i z)

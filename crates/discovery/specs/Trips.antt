@@ -1,11 +1,13 @@
 -- Which trip of a route a label can take, and where it stands in the route's order.
-use Prim.Native.Nat.{ℕ, _<_}
+use Prim.Native.Nat.{ℕ, zero, suc, _+_, _<_}
 use mathlib.Core.Path.{_≡_}
-use mathlib.Core.Bool.{Bool}
+use mathlib.Core.Bool.{Bool, cond}
 use mathlib.Core.Option.{Option, none, some}
 use mathlib.Core.List.{List}
-use lib.Dec.{leb}
+use lib.Dec.{ltb, leb}
 use Rattle.base.specs.First.{first}
+use Rattle.model.specs.declared.Direction.{Direction}
+use Rattle.model.specs.declared.Direction.the-variants.{Departure, Arrival}
 use Rattle.model.specs.Tables.{Net}
 use Rattle.repository.specs.Accepted.{Accepted}
 use Rattle.repository.specs.NetOf.{netOf}
@@ -34,3 +36,14 @@ notBefore n r p x i = leb x (n .arrival (n .tripAt r i) p)
 -- the place of the first such trip; the number of trips where there is none
 unfoldable pub firstNotBefore : Net → ℕ → ℕ → ℕ → ℕ
 firstNotBefore n r p x = first (notBefore n r p x) (n .trips r) 0
+
+-- the trip before a place
+unfoldable pub before : ℕ → Trip
+before zero = Nothing
+before (suc i) = At i
+
+-- the place of the first trip that arrives at position p not before the label x; in an arrival search of the last that arrives not after it,
+-- which stands before the first that arrives a second later
+unfoldable pub placeOf : Direction → Net → ℕ → ℕ → ℕ → Trip
+placeOf Departure n r p x = cond (ltb (firstNotBefore n r p x) (n .trips r)) (At (firstNotBefore n r p x)) Nothing
+placeOf Arrival n r p x = before (firstNotBefore n r p (x + 1))

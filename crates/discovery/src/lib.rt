@@ -12,7 +12,7 @@ ghost use Rattle.repository.specs.Laid.{Laid};
 ghost use Rattle.repository.specs.Accepted.{Accepted};
 ghost use Rattle.repository.specs.NetOf.{transferRow, walkRow, netOf};
 ghost use Rattle.repository.specs.Rows.{calls, transfers, walks, rowCount, OfStop, callRoute, callFirst, Stands};
-ghost use Rattle.discovery.specs.Trips.{tripIn, InRoute, Along, notBefore, firstNotBefore};
+ghost use Rattle.discovery.specs.Trips.{tripIn, InRoute, Along, notBefore, firstNotBefore, placeOf};
 use shared::Duration;
 use shared::Time;
 
@@ -156,6 +156,7 @@ pub fn find_earliest_trip(tables: &[u32], r: u32, p: u32, label: Time, near: u32
     requires { ⌜ r < netOf (now tables) .routes ⌝ }
     requires { ⌜ p < netOf (now tables) .positions r ⌝ }
     requires { ⌜ 0 < label .0 ⌝ }
+    ensures { λ t. ⌜ t ≡ placeOf Departure (netOf (now (tables .entry))) r p (label .0) ⌝ }
     ensures { λ t. ⌜ tripIn (netOf (now (tables .entry))) r t ≡ catch Departure (netOf (now (tables .entry))) r p (label .0) ⌝ }
     ensures { λ t. ⌜ InRoute (netOf (now (tables .entry))) r t ⌝ }
 {
@@ -173,6 +174,7 @@ pub fn find_latest_trip(tables: &[u32], r: u32, p: u32, label: Time, near: u32) 
     requires { ⌜ r < netOf (now tables) .routes ⌝ }
     requires { ⌜ p < netOf (now tables) .positions r ⌝ }
     requires { ⌜ 0 < label .0 ⌝ }
+    ensures { λ t. ⌜ t ≡ placeOf Arrival (netOf (now (tables .entry))) r p (label .0) ⌝ }
     ensures { λ t. ⌜ tripIn (netOf (now (tables .entry))) r t ≡ catch Arrival (netOf (now (tables .entry))) r p (label .0) ⌝ }
     ensures { λ t. ⌜ InRoute (netOf (now (tables .entry))) r t ⌝ }
 {

@@ -4,7 +4,7 @@ ghost use Prim.Native.Nat.{_<_};
 ghost use Rattle.repository.specs.Accepted.{Accepted};
 ghost use Rattle.repository.specs.NetOf.{netOf};
 ghost use Rattle.allocator.specs.Layout.{Sized, view};
-ghost use Rattle.allocator.specs.Tidy.{Kept};
+ghost use Rattle.allocator.specs.Tidy.{Tidy};
 ghost use Rattle.allocator.specs.Operations.{unmasked, refilled};
 ghost use Rattle.explorer_choosing.specs.Chosen.{chosenAt, chosen, openedBy};
 use marks::Next;
@@ -25,10 +25,11 @@ fn choose_at(
     requires { ⌜ n ≡ netOf (now tables) .stops ⌝ }
     requires { ⌜ m ≡ netOf (now tables) .routes ⌝ }
     requires { ⌜ Sized n m (now words) (now marks) ⌝ }
+    requires { ⌜ Tidy n m (now words) (now marks) ⌝ }
     requires { ⌜ s < n ⌝ }
     ensures { λ _. ⌜ view n m (now (words .exit)) (now (marks .exit))
         ≡ chosenAt d (netOf (now (tables .entry))) s (view n m (now (words .entry)) (now (marks .entry))) ⌝ }
-    ensures { λ _. ⌜ Kept n m (now (words .entry)) (now (marks .entry)) (now (words .exit)) (now (marks .exit)) ⌝ }
+    ensures { λ _. ⌜ Tidy n m (now (words .exit)) (now (marks .exit)) ⌝ }
 {
     let end = repository::calls::calls_to(tables, s);
     let mut j = repository::calls::calls_from(tables, s);
@@ -53,9 +54,10 @@ pub fn choose_routes(
     requires { ⌜ n ≡ netOf (now tables) .stops ⌝ }
     requires { ⌜ m ≡ netOf (now tables) .routes ⌝ }
     requires { ⌜ Sized n m (now words) (now marks) ⌝ }
+    requires { ⌜ Tidy n m (now words) (now marks) ⌝ }
     ensures { λ _. ⌜ view n m (now (words .exit)) (now (marks .exit))
         ≡ chosen d (netOf (now (tables .entry))) (view n m (now (words .entry)) (now (marks .entry))) ⌝ }
-    ensures { λ _. ⌜ Kept n m (now (words .entry)) (now (marks .entry)) (now (words .exit)) (now (marks .exit)) ⌝ }
+    ensures { λ _. ⌜ Tidy n m (now (words .exit)) (now (marks .exit)) ⌝ }
 {
     let mut at: usize = 0;
     loop {
@@ -83,10 +85,11 @@ fn choose_anew(
     requires { ⌜ n ≡ netOf (now tables) .stops ⌝ }
     requires { ⌜ m ≡ netOf (now tables) .routes ⌝ }
     requires { ⌜ Sized n m (now words) (now marks) ⌝ }
+    requires { ⌜ Tidy n m (now words) (now marks) ⌝ }
     ensures { λ _. ⌜ view n m (now (words .exit)) (now (marks .exit))
         ≡ chosen d (netOf (now (tables .entry)))
         (unmasked m (refilled mode m d (view n m (now (words .entry)) (now (marks .entry))))) ⌝ }
-    ensures { λ _. ⌜ Kept n m (now (words .entry)) (now (marks .entry)) (now (words .exit)) (now (marks .exit)) ⌝ }
+    ensures { λ _. ⌜ Tidy n m (now (words .exit)) (now (marks .exit)) ⌝ }
 {
     allocator::begin_choosing(words, marks, n, m, mode, d);
     choose_routes(tables, words, marks, n, m, d);
@@ -106,9 +109,10 @@ pub fn open_round(
     requires { ⌜ n ≡ netOf (now tables) .stops ⌝ }
     requires { ⌜ m ≡ netOf (now tables) .routes ⌝ }
     requires { ⌜ Sized n m (now words) (now marks) ⌝ }
+    requires { ⌜ Tidy n m (now words) (now marks) ⌝ }
     ensures { λ _. ⌜ view n m (now (words .exit)) (now (marks .exit))
         ≡ openedBy mode d (netOf (now (tables .entry))) (view n m (now (words .entry)) (now (marks .entry))) ⌝ }
-    ensures { λ _. ⌜ Kept n m (now (words .entry)) (now (marks .entry)) (now (words .exit)) (now (marks .exit)) ⌝ }
+    ensures { λ _. ⌜ Tidy n m (now (words .exit)) (now (marks .exit)) ⌝ }
 {
     allocator::swap_labels(words, marks, n, m);
     choose_anew(tables, words, marks, n, m, mode, d);

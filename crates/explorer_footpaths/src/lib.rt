@@ -11,7 +11,7 @@ ghost use Rattle.repository.specs.Accepted.{Accepted};
 ghost use Rattle.repository.specs.NetOf.{transferRow, walkRow, netOf};
 ghost use Rattle.repository.specs.Rows.{transfers, walks, OfStop};
 ghost use Rattle.allocator.specs.Layout.{Words, Sized, view, bestOf, heldOf};
-ghost use Rattle.allocator.specs.Tidy.{Kept};
+ghost use Rattle.allocator.specs.Tidy.{Tidy};
 ghost use Rattle.explorer.specs.Fused.{stopWork, feetWork};
 ghost use Rattle.explorer.specs.Turns.{inTurn};
 ghost use Rattle.explorer_footpaths.specs.Footing.{Label, Footing, Leaving, footFrom};
@@ -99,6 +99,7 @@ fn explore_path(
     span: Duration,
 )
     requires { ⌜ Sized n m (now words) (now marks) ⌝ }
+    requires { ⌜ Tidy n m (now words) (now marks) ⌝ }
     requires { ⌜ k < 15 ⌝ }
     requires { ⌜ Label (x .0) ⌝ }
     requires { ⌜ to < n ⌝ }
@@ -106,7 +107,7 @@ fn explore_path(
     ensures { λ _. ⌜ view n m (now (words .exit)) (now (marks .exit))
         ≡ footFrom d n k (target .0) kind s (x .0) (record { to = to; span = span .0 })
         (view n m (now (words .entry)) (now (marks .entry))) ⌝ }
-    ensures { λ _. ⌜ Kept n m (now (words .entry)) (now (marks .entry)) (now (words .exit)) (now (marks .exit)) ⌝ }
+    ensures { λ _. ⌜ Tidy n m (now (words .exit)) (now (marks .exit)) ⌝ }
 {
     let y = walked_at(d, x, span);
     if is_ahead(d, y, target) {
@@ -132,10 +133,11 @@ fn explore_transfer(
     requires { ⌜ Leaving (now tables) n k s (x .0) ⌝ }
     requires { ⌜ OfStop transfers (now tables) s j ⌝ }
     requires { ⌜ Sized n m (now words) (now marks) ⌝ }
+    requires { ⌜ Tidy n m (now words) (now marks) ⌝ }
     ensures { λ _. ⌜ view n m (now (words .exit)) (now (marks .exit))
         ≡ footFrom d n k (target .0) Transfer s (x .0) (transferRow (now (tables .entry)) j)
         (view n m (now (words .entry)) (now (marks .entry))) ⌝ }
-    ensures { λ _. ⌜ Kept n m (now (words .entry)) (now (marks .entry)) (now (words .exit)) (now (marks .exit)) ⌝ }
+    ensures { λ _. ⌜ Tidy n m (now (words .exit)) (now (marks .exit)) ⌝ }
 {
     let to = repository::footpaths::transfer_to(tables, j);
     if may_gain(words, n, m, d, x, to) {
@@ -172,10 +174,11 @@ fn explore_transfers_at(
 )
     requires { ⌜ Leaving (now tables) n k s (x .0) ⌝ }
     requires { ⌜ Sized n m (now words) (now marks) ⌝ }
+    requires { ⌜ Tidy n m (now words) (now marks) ⌝ }
     ensures { λ _. ⌜ view n m (now (words .exit)) (now (marks .exit))
         ≡ inTurn (footFrom d n k (target .0) Transfer s (x .0)) (netOf (now (tables .entry)) .transfers s)
         (view n m (now (words .entry)) (now (marks .entry))) ⌝ }
-    ensures { λ _. ⌜ Kept n m (now (words .entry)) (now (marks .entry)) (now (words .exit)) (now (marks .exit)) ⌝ }
+    ensures { λ _. ⌜ Tidy n m (now (words .exit)) (now (marks .exit)) ⌝ }
 {
     let end = repository::footpaths::transfers_to(tables, s);
     let mut j = repository::footpaths::transfers_from(tables, s);
@@ -202,10 +205,11 @@ fn explore_walk(
     requires { ⌜ Leaving (now tables) n k s (x .0) ⌝ }
     requires { ⌜ OfStop walks (now tables) s j ⌝ }
     requires { ⌜ Sized n m (now words) (now marks) ⌝ }
+    requires { ⌜ Tidy n m (now words) (now marks) ⌝ }
     ensures { λ _. ⌜ view n m (now (words .exit)) (now (marks .exit))
         ≡ footFrom d n k (target .0) Walk s (x .0) (walkRow (now (tables .entry)) j)
         (view n m (now (words .entry)) (now (marks .entry))) ⌝ }
-    ensures { λ _. ⌜ Kept n m (now (words .entry)) (now (marks .entry)) (now (words .exit)) (now (marks .exit)) ⌝ }
+    ensures { λ _. ⌜ Tidy n m (now (words .exit)) (now (marks .exit)) ⌝ }
 {
     let to = repository::footpaths::walk_to(tables, j);
     if may_gain(words, n, m, d, x, to) {
@@ -242,10 +246,11 @@ fn explore_walks_at(
 )
     requires { ⌜ Leaving (now tables) n k s (x .0) ⌝ }
     requires { ⌜ Sized n m (now words) (now marks) ⌝ }
+    requires { ⌜ Tidy n m (now words) (now marks) ⌝ }
     ensures { λ _. ⌜ view n m (now (words .exit)) (now (marks .exit))
         ≡ inTurn (footFrom d n k (target .0) Walk s (x .0)) (netOf (now (tables .entry)) .walks s)
         (view n m (now (words .entry)) (now (marks .entry))) ⌝ }
-    ensures { λ _. ⌜ Kept n m (now (words .entry)) (now (marks .entry)) (now (words .exit)) (now (marks .exit)) ⌝ }
+    ensures { λ _. ⌜ Tidy n m (now (words .exit)) (now (marks .exit)) ⌝ }
 {
     let end = repository::footpaths::walks_to(tables, s);
     let mut j = repository::footpaths::walks_from(tables, s);
@@ -271,10 +276,11 @@ fn explore_stop(
 )
     requires { ⌜ Leaving (now tables) n k s (getD (heldOf n m (now words)) s 0) ⌝ }
     requires { ⌜ Sized n m (now words) (now marks) ⌝ }
+    requires { ⌜ Tidy n m (now words) (now marks) ⌝ }
     ensures { λ _. ⌜ view n m (now (words .exit)) (now (marks .exit))
         ≡ stopWork d (netOf (now (tables .entry))) k (target .0) walking s
         (view n m (now (words .entry)) (now (marks .entry))) ⌝ }
-    ensures { λ _. ⌜ Kept n m (now (words .entry)) (now (marks .entry)) (now (words .exit)) (now (marks .exit)) ⌝ }
+    ensures { λ _. ⌜ Tidy n m (now (words .exit)) (now (marks .exit)) ⌝ }
 {
     let x = allocator::held_at(words, n, m, s);
     explore_transfers_at(tables, words, marks, n, m, d, k, target, s, x);
@@ -299,11 +305,12 @@ fn explore_stops(
     requires { ⌜ n ≡ netOf (now tables) .stops ⌝ }
     requires { ⌜ k < 15 ⌝ }
     requires { ⌜ Sized n m (now words) (now marks) ⌝ }
+    requires { ⌜ Tidy n m (now words) (now marks) ⌝ }
     requires { ⌜ Footing n (view n m (now words) (now marks)) ⌝ }
     ensures { λ _. ⌜ view n m (now (words .exit)) (now (marks .exit))
         ≡ feetWork d (netOf (now (tables .entry))) k (target .0) walking
         (view n m (now (words .entry)) (now (marks .entry))) ⌝ }
-    ensures { λ _. ⌜ Kept n m (now (words .entry)) (now (marks .entry)) (now (words .exit)) (now (marks .exit)) ⌝ }
+    ensures { λ _. ⌜ Tidy n m (now (words .exit)) (now (marks .exit)) ⌝ }
 {
     let mut at: usize = 0;
     loop {
@@ -332,11 +339,12 @@ pub fn explore_transfers(
     requires { ⌜ n ≡ netOf (now tables) .stops ⌝ }
     requires { ⌜ k < 15 ⌝ }
     requires { ⌜ Sized n m (now words) (now marks) ⌝ }
+    requires { ⌜ Tidy n m (now words) (now marks) ⌝ }
     requires { ⌜ Footing n (view n m (now words) (now marks)) ⌝ }
     ensures { λ _. ⌜ view n m (now (words .exit)) (now (marks .exit))
         ≡ feetWork Departure (netOf (now (tables .entry))) k (target .0) walking
         (view n m (now (words .entry)) (now (marks .entry))) ⌝ }
-    ensures { λ _. ⌜ Kept n m (now (words .entry)) (now (marks .entry)) (now (words .exit)) (now (marks .exit)) ⌝ }
+    ensures { λ _. ⌜ Tidy n m (now (words .exit)) (now (marks .exit)) ⌝ }
 {
     explore_stops(
         tables,
@@ -365,11 +373,12 @@ pub fn explore_transfers_reverse(
     requires { ⌜ n ≡ netOf (now tables) .stops ⌝ }
     requires { ⌜ k < 15 ⌝ }
     requires { ⌜ Sized n m (now words) (now marks) ⌝ }
+    requires { ⌜ Tidy n m (now words) (now marks) ⌝ }
     requires { ⌜ Footing n (view n m (now words) (now marks)) ⌝ }
     ensures { λ _. ⌜ ((target : ℕ) → view n m (now (words .exit)) (now (marks .exit))
         ≡ feetWork Arrival (netOf (now (tables .entry))) k target walking
         (view n m (now (words .entry)) (now (marks .entry)))) ⌝ }
-    ensures { λ _. ⌜ Kept n m (now (words .entry)) (now (marks .entry)) (now (words .exit)) (now (marks .exit)) ⌝ }
+    ensures { λ _. ⌜ Tidy n m (now (words .exit)) (now (marks .exit)) ⌝ }
 {
     explore_stops(
         tables,

@@ -20,17 +20,34 @@ use Rattle.repository.specs.Rows.{TripOf, timeRow, tripCount}
 use Rattle.repository.proofs.Trips.{trip-known}
 use Rattle.discovery.specs.declared.Trip.{Trip}
 use Rattle.discovery.specs.declared.Trip.the-variants.{At, Nothing}
-use Rattle.discovery.specs.Trips.{tripIn, InRoute}
-use Rattle.explorer_rides.specs.Riding.{aboard, Seated, OnRoute, boardAt}
+use Rattle.discovery.specs.Trips.{tripIn, InRoute, placeOf}
+use Rattle.explorer_rides.specs.declared.Ride.{Ride}
+use Rattle.explorer_rides.specs.Riding.{aboard, Seated, caught, OnRoute, boardAt}
 use Rattle.explorer_rides.proofs.Seats.{aboard-on}
 
 -- ---- the lookup
 module _ {d : Direction} (w : List ℕ) (r p x : ℕ) (t : Trip) where
+  pub place-departure : d ≡ Departure → t ≡ placeOf Departure (netOf w) r p x → t ≡ placeOf d (netOf w) r p x
+  place-departure e f = f ∙ rw e
+
+  pub place-arrival : d ≡ Arrival → t ≡ placeOf Arrival (netOf w) r p x → t ≡ placeOf d (netOf w) r p x
+  place-arrival e f = f ∙ rw e
+
   pub find-departure : d ≡ Departure → tripIn (netOf w) r t ≡ catch Departure (netOf w) r p x → tripIn (netOf w) r t ≡ catch d (netOf w) r p x
   find-departure e f = f ∙ rw e
 
   pub find-arrival : d ≡ Arrival → tripIn (netOf w) r t ≡ catch Arrival (netOf w) r p x → tripIn (netOf w) r t ≡ catch d (netOf w) r p x
   find-arrival e f = f ∙ rw e
+
+module _ (d : Direction) (w : List ℕ) (r p x : ℕ) (a : Ride) {t : Trip} (e : t ≡ placeOf d (netOf w) r p x) where
+  pub caught-is : {i v row : ℕ} → t ≡ At i → v ≡ netOf w .tripAt r i → row ≡ timeRow w v
+      → record { trip = v; since = p; row = row; place = i } ≡ caught w r p a (placeOf d (netOf w) r p x)
+  unfolding caught
+  caught-is f g k = rw (← e, f, ← g, ← k)
+
+  pub caught-not : t ≡ Nothing → a ≡ caught w r p a (placeOf d (netOf w) r p x)
+  unfolding caught
+  caught-not f = rw (← e, f)
 
 module _ (w : List ℕ) (r p : ℕ) {t : Trip} (z : InRoute (netOf w) r t) {i : ℕ} (f : t ≡ At i) where
   pub caught-in : i < netOf w .trips r

@@ -18,9 +18,8 @@ use Rattle.repository.specs.Accepted.{Accepted}
 use Rattle.repository.specs.NetOf.{netOf}
 use Rattle.allocator.specs.Sections.{sect}
 use Rattle.allocator.specs.Layout.{pages, flags, activeOf, maskOf, view}
-use Rattle.allocator.specs.Tidy.{Kept}
+use Rattle.allocator.specs.Tidy.{Tidy}
 use Rattle.allocator.specs.Marked.{after}
-use Rattle.allocator.proofs.Keeping.{kept-same, kept-then}
 use Rattle.allocator.proofs.Tabulated.{tab-length}
 use Rattle.allocator.proofs.Visited.{after-start, after-from, after-below, after-next, after-none}
 use Rattle.explorer.specs.Fused.{scanWork, routeWork, routesWork, ridesWork}
@@ -77,33 +76,33 @@ module _ (d : Direction) (w : List ℕ) (n m k target : ℕ) (ws₀ ms₀ : List
     pub rest : routesWork d (netOf w) k target (after i (maskOf n m ms)) (view n m ws ms)
         ≡ ridesWork d (netOf w) k target (view n m ws₀ ms₀)
     pub active : activeOf n m ws ≡ activeOf n m ws₀
-    pub kept : Kept n m ws₀ ms₀ ws ms
+    pub tidy : Tidy n m ws ms
 
 module _ {d : Direction} {w : List ℕ} {n m k target : ℕ} {ws₀ ms₀ : List ℕ} where
-  pub exploring-start : Exploring d w n m k target ws₀ ms₀ ws₀ ms₀ 0
+  pub exploring-start : Tidy n m ws₀ ms₀ → Exploring d w n m k target ws₀ ms₀ ws₀ ms₀ 0
   unfolding ridesWork view
-  exploring-start = record { rest = rw (after-start (maskOf n m ms₀)); active = refl; kept = kept-same }
+  exploring-start t = record { rest = rw (after-start (maskOf n m ms₀)); active = refl; tidy = t }
+
+  pub exploring-tidy : {ws ms : List ℕ} {i : ℕ} → Exploring d w n m k target ws₀ ms₀ ws ms i → Tidy n m ws ms
+  exploring-tidy h = h .tidy
 
   module _ {ws ms : List ℕ} {i : ℕ} {x : Next} (h : Exploring d w n m k target ws₀ ms₀ ws ms i)
       (e : x ≡ firstOf (after i (maskOf n m ms))) where
     pub exploring-step : {ws′ ms′ : List ℕ} {r : ℕ} → x ≡ At r
         → view n m ws′ ms′ ≡ routeWork d (netOf w) k target r (view n m ws ms)
-        → Kept n m ws ms ws′ ms′ → Exploring d w n m k target ws₀ ms₀ ws′ ms′ (r + 1)
+        → Tidy n m ws′ ms′ → Exploring d w n m k target ws₀ ms₀ ws′ ms′ (r + 1)
     unfolding routesWork
     exploring-step {ws′} {ms′} {r} f g j =
         let masks = route-mask d w n m k target r ws ms ws′ ms′ g in
         record {
           rest = rw (masks, g) (rw (after-next i (maskOf n m ms) (sym f ∙ e)) at (h .rest));
           active = route-active d w n m k target r ws ms ws′ ms′ g ∙ h .active;
-          kept = kept-then (h .kept) j;
+          tidy = j;
         }
 
     pub exploring-end : x ≡ Nothing → view n m ws ms ≡ ridesWork d (netOf w) k target (view n m ws₀ ms₀)
     unfolding routesWork
     exploring-end f = rw (after-none i (maskOf n m ms) (sym f ∙ e)) at (h .rest)
-
-    pub exploring-kept : Kept n m ws₀ ms₀ ws ms
-    exploring-kept = h .kept
 
 -- a mark of an arrival search
 pub placed-on : {w : List ℕ} {n m k target r : ℕ} {ws₀ ms₀ ws ms : List ℕ} {i : ℕ}

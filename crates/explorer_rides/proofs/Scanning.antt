@@ -13,8 +13,7 @@ use Rattle.model.specs.Moments.{MAX}
 use Rattle.model.specs.Rides.{board, course}
 use Rattle.repository.specs.NetOf.{netOf}
 use Rattle.allocator.specs.Layout.{view}
-use Rattle.allocator.specs.Tidy.{Kept}
-use Rattle.allocator.proofs.Keeping.{kept-same, kept-then}
+use Rattle.allocator.specs.Tidy.{Tidy}
 use Rattle.explorer.specs.Fused.{alightWork, scanWork}
 use Rattle.explorer_rides.specs.declared.Ride.{Ride}
 use Rattle.explorer_rides.specs.Riding.{aboard, Seated, Riding}
@@ -74,27 +73,27 @@ module _ (d : Direction) (w : List ℕ) (n m k target r from : ℕ) (ws₀ ms₀
   pub record Along (ws ms : List ℕ) (ride : Ride) (ps : List ℕ) : Type 0 where
     pub rest : scanWork d (netOf w) k target r ps (aboard ride) (view n m ws ms)
         ≡ scanWork d (netOf w) k target r (course d (netOf w) r from) Off (view n m ws₀ ms₀)
-    pub kept : Kept n m ws₀ ms₀ ws ms
+    pub tidy : Tidy n m ws ms
     pub seated : Seated w r ride
 
 module _ {d : Direction} {w : List ℕ} {n m k target r from : ℕ} {ws₀ ms₀ : List ℕ} where
-  pub along-start : {ps : List ℕ} → ps ≡ course d (netOf w) r from
+  pub along-start : {ps : List ℕ} → ps ≡ course d (netOf w) r from → Tidy n m ws₀ ms₀
       → Along d w n m k target r from ws₀ ms₀ ws₀ ms₀ (record { trip = MAX; since = 0; row = 0; place = MAX }) ps
-  along-start e = record {
+  along-start e t = record {
     rest = rw (e, aboard-off (record { trip = MAX; since = 0; row = 0; place = MAX }) refl);
-    kept = kept-same;
+    tidy = t;
     seated = record { seat = λ real. absurd (real refl) };
   }
 
   pub along-step : {ws ms ws′ ms′ ps qs : List ℕ} {a b : Ride} {p : ℕ}
       → Along d w n m k target r from ws₀ ms₀ ws ms a ps → ps ≡ p ∷ qs
-      → view n m ws′ ms′ ≡ alightWork d (netOf w) k target r p (aboard a) (view n m ws ms) → Kept n m ws ms ws′ ms′
+      → view n m ws′ ms′ ≡ alightWork d (netOf w) k target r p (aboard a) (view n m ws ms) → Tidy n m ws′ ms′
       → aboard b ≡ board d (netOf w) ((view n m ws ms) .prev) r p (aboard a) → Seated w r b
       → Along d w n m k target r from ws₀ ms₀ ws′ ms′ b qs
   unfolding scanWork
   along-step {ws} {ms} {ws′} {ms′} {ps} {qs} {a} {b} {p} h e f g i z = record {
     rest = rw (f, i) (rw e at (h .rest));
-    kept = kept-then (h .kept) g;
+    tidy = g;
     seated = z;
   }
 
@@ -103,6 +102,6 @@ module _ {d : Direction} {w : List ℕ} {n m k target r from : ℕ} {ws₀ ms₀
   unfolding scanWork
   along-end h e = rw e at (h .rest)
 
-  pub along-kept : {ws ms ps : List ℕ} {a : Ride} → Along d w n m k target r from ws₀ ms₀ ws ms a ps
-      → Kept n m ws₀ ms₀ ws ms
-  along-kept h = h .kept
+  pub along-tidy : {ws ms ps : List ℕ} {a : Ride} → Along d w n m k target r from ws₀ ms₀ ws ms a ps
+      → Tidy n m ws ms
+  along-tidy h = h .tidy

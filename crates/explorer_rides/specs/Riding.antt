@@ -18,6 +18,8 @@ use Rattle.model.specs.Rides.{leave, catch, allows, boarded}
 use Rattle.repository.specs.Accepted.{Accepted}
 use Rattle.repository.specs.NetOf.{netOf}
 use Rattle.repository.specs.Rows.{TripOf, timeRow}
+use Rattle.discovery.specs.declared.Trip.{Trip}
+use Rattle.discovery.specs.declared.Trip.the-variants.{At, Nothing}
 use Rattle.explorer_rides.specs.declared.Ride.{Ride}
 
 -- the model's word for it
@@ -33,6 +35,11 @@ pub record Seat (w : List ℕ) (r : ℕ) (a : Ride) : Type 0 where
 -- so it is where there is a trip
 pub record Seated (w : List ℕ) (r : ℕ) (a : Ride) : Type 0 where
   pub seat : a .trip ≢ MAX → Seat w r a
+
+-- the trip at a place of route r is boarded at position p; where there is none, the ride a goes on
+unfoldable pub caught : List ℕ → ℕ → ℕ → Ride → Trip → Ride
+caught w r p a (At i) = record { trip = netOf w .tripAt r i; since = p; row = timeRow w (netOf w .tripAt r i); place = i }
+caught w r p a Nothing = a
 
 -- the leg of the trip from the position of route r where it was boarded to the stop s at t
 unfoldable pub rideLeg : Direction → Net → ℕ → Ride → ℕ → ℕ → Leg

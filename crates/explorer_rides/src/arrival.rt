@@ -7,7 +7,7 @@ ghost use Rattle.model.specs.declared.Direction.the-variants.{Arrival};
 ghost use Rattle.model.specs.Rides.{allows as allowed, board as boards, course};
 ghost use Rattle.repository.specs.NetOf.{netOf};
 ghost use Rattle.allocator.specs.Layout.{Sized, activeOf, view};
-ghost use Rattle.allocator.specs.Tidy.{Kept};
+ghost use Rattle.allocator.specs.Tidy.{Tidy};
 ghost use Rattle.explorer.specs.Fused.{alightWork, scanWork, routeWork};
 ghost use Rattle.explorer_rides.specs.Riding.{aboard, Seated, Fixed, OnRoute, Riding, boardAt};
 use super::Ride;
@@ -34,10 +34,11 @@ fn alight(
     requires { ⌜ Riding (now tables) n k r (now stops) ⌝ }
     requires { ⌜ p < netOf (now tables) .positions r ⌝ }
     requires { ⌜ Sized n m (now words) (now marks) ⌝ }
+    requires { ⌜ Tidy n m (now words) (now marks) ⌝ }
     ensures { λ _. ⌜ view n m (now (words .exit)) (now (marks .exit))
         ≡ alightWork Arrival (netOf (now (tables .entry))) k (target .0) r p (aboard ride)
         (view n m (now (words .entry)) (now (marks .entry))) ⌝ }
-    ensures { λ _. ⌜ Kept n m (now (words .entry)) (now (marks .entry)) (now (words .exit)) (now (marks .exit)) ⌝ }
+    ensures { λ _. ⌜ Tidy n m (now (words .exit)) (now (marks .exit)) ⌝ }
 {
     if ride.trip == repository::MAX {
         return;
@@ -108,10 +109,11 @@ fn ride_at(
     requires { ⌜ p < netOf (now tables) .positions r ⌝ }
     requires { ⌜ Seated (now tables) r ride ⌝ }
     requires { ⌜ Sized n m (now words) (now marks) ⌝ }
+    requires { ⌜ Tidy n m (now words) (now marks) ⌝ }
     ensures { λ _. ⌜ view n m (now (words .exit)) (now (marks .exit))
         ≡ alightWork Arrival (netOf (now (tables .entry))) k (target .0) r p (aboard ride)
         (view n m (now (words .entry)) (now (marks .entry))) ⌝ }
-    ensures { λ _. ⌜ Kept n m (now (words .entry)) (now (marks .entry)) (now (words .exit)) (now (marks .exit)) ⌝ }
+    ensures { λ _. ⌜ Tidy n m (now (words .exit)) (now (marks .exit)) ⌝ }
     ensures { λ e. ⌜ aboard e
         ≡ boards Arrival (netOf (now (tables .entry))) ((view n m (now (words .entry)) (now (marks .entry))) .prev) r p
         (aboard ride) ⌝ }
@@ -138,12 +140,13 @@ fn scan(
 )
     requires { ⌜ Riding (now tables) n k r (now stops) ⌝ }
     requires { ⌜ Sized n m (now words) (now marks) ⌝ }
+    requires { ⌜ Tidy n m (now words) (now marks) ⌝ }
     requires { ⌜ from < netOf (now tables) .positions r ⌝ }
     ensures { λ _. ⌜ view n m (now (words .exit)) (now (marks .exit))
         ≡ scanWork Arrival (netOf (now (tables .entry))) k (target .0) r
         (course Arrival (netOf (now (tables .entry))) r from) Off
         (view n m (now (words .entry)) (now (marks .entry))) ⌝ }
-    ensures { λ _. ⌜ Kept n m (now (words .entry)) (now (marks .entry)) (now (words .exit)) (now (marks .exit)) ⌝ }
+    ensures { λ _. ⌜ Tidy n m (now (words .exit)) (now (marks .exit)) ⌝ }
 {
     let mut ride = Ride {
         trip: repository::MAX,
@@ -171,12 +174,13 @@ pub fn explore_route(
 )
     requires { ⌜ Fixed (now tables) n m k ⌝ }
     requires { ⌜ Sized n m (now words) (now marks) ⌝ }
+    requires { ⌜ Tidy n m (now words) (now marks) ⌝ }
     requires { ⌜ r < m ⌝ }
     requires { ⌜ getD (activeOf n m (now words)) r 0 < netOf (now tables) .positions r ⌝ }
     ensures { λ _. ⌜ view n m (now (words .exit)) (now (marks .exit))
         ≡ routeWork Arrival (netOf (now (tables .entry))) k (target .0) r
         (view n m (now (words .entry)) (now (marks .entry))) ⌝ }
-    ensures { λ _. ⌜ Kept n m (now (words .entry)) (now (marks .entry)) (now (words .exit)) (now (marks .exit)) ⌝ }
+    ensures { λ _. ⌜ Tidy n m (now (words .exit)) (now (marks .exit)) ⌝ }
 {
     let from = allocator::active_at(words, n, m, r);
     let stops = repository::routes::route_stops(tables, r);

@@ -10,7 +10,7 @@ ghost use Rattle.model.specs.declared.Direction.the-variants.{Departure, Arriva
 ghost use Rattle.repository.specs.Accepted.{Accepted};
 ghost use Rattle.repository.specs.NetOf.{netOf};
 ghost use Rattle.allocator.specs.Layout.{Sized, view};
-ghost use Rattle.allocator.specs.Tidy.{Kept};
+ghost use Rattle.allocator.specs.Tidy.{Tidy};
 ghost use Rattle.explorer.specs.Fused.{ridesWork};
 ghost use Rattle.model.proofs.Choosing.{Placed};
 use marks::Next;
@@ -18,7 +18,7 @@ use shared::Time;
 
 // Who is aboard: a trip since a position of the route, with the first row of the trip's times. The trip
 // MAX is none. (An enum would carry bytes that hold nothing from position to position.) The trip's place
-// in the route's order tells where to look first for the next; nothing rests on it.
+// in the route's order tells where to look first for the next; no answer rests on it.
 pub struct Ride {
     pub trip: u32,
     pub since: u32,
@@ -40,10 +40,11 @@ pub fn explore_routes(
     requires { ⌜ m ≡ netOf (now tables) .routes ⌝ }
     requires { ⌜ k < 15 ⌝ }
     requires { ⌜ Sized n m (now words) (now marks) ⌝ }
+    requires { ⌜ Tidy n m (now words) (now marks) ⌝ }
     ensures { λ _. ⌜ view n m (now (words .exit)) (now (marks .exit))
         ≡ ridesWork Departure (netOf (now (tables .entry))) k (target .0)
         (view n m (now (words .entry)) (now (marks .entry))) ⌝ }
-    ensures { λ _. ⌜ Kept n m (now (words .entry)) (now (marks .entry)) (now (words .exit)) (now (marks .exit)) ⌝ }
+    ensures { λ _. ⌜ Tidy n m (now (words .exit)) (now (marks .exit)) ⌝ }
 {
     let mut from: usize = 0;
     loop {
@@ -73,11 +74,12 @@ pub fn explore_routes_reverse(
     requires { ⌜ m ≡ netOf (now tables) .routes ⌝ }
     requires { ⌜ k < 15 ⌝ }
     requires { ⌜ Sized n m (now words) (now marks) ⌝ }
+    requires { ⌜ Tidy n m (now words) (now marks) ⌝ }
     requires { ⌜ Placed Arrival (netOf (now tables)) ((view n m (now words) (now marks)) .active) ⌝ }
     ensures { λ _. ⌜ view n m (now (words .exit)) (now (marks .exit))
         ≡ ridesWork Arrival (netOf (now (tables .entry))) k (target .0)
         (view n m (now (words .entry)) (now (marks .entry))) ⌝ }
-    ensures { λ _. ⌜ Kept n m (now (words .entry)) (now (marks .entry)) (now (words .exit)) (now (marks .exit)) ⌝ }
+    ensures { λ _. ⌜ Tidy n m (now (words .exit)) (now (marks .exit)) ⌝ }
 {
     let mut from: usize = 0;
     loop {

@@ -8,11 +8,11 @@ ghost use Rattle.model.specs.Legs.{legOf};
 ghost use Rattle.model.specs.Moments.{better, ahead};
 ghost use Rattle.model.specs.Rides.{leave, catch, boarded};
 ghost use Rattle.repository.specs.NetOf.{netOf};
-ghost use Rattle.discovery.specs.Trips.{tripIn, InRoute};
+ghost use Rattle.discovery.specs.Trips.{tripIn, InRoute, placeOf};
 ghost use Rattle.allocator.specs.Layout.{Words, Sized, bestOf, view};
 ghost use Rattle.allocator.specs.Operations.{applied};
-ghost use Rattle.allocator.specs.Tidy.{Kept};
-ghost use Rattle.explorer_rides.specs.Riding.{aboard, Seat, Seated, rideLeg, OnRoute, Riding};
+ghost use Rattle.allocator.specs.Tidy.{Tidy};
+ghost use Rattle.explorer_rides.specs.Riding.{aboard, Seat, Seated, caught, rideLeg, OnRoute, Riding};
 use super::Ride;
 use discovery::Trip;
 use model::Direction;
@@ -25,6 +25,7 @@ use shared::Time;
 fn find_trip(tables: &[u32], d: Direction, r: u32, p: u32, label: Time, near: u32) -> Trip
     requires { ⌜ OnRoute (now tables) r p ⌝ }
     requires { ⌜ 0 < label .0 ⌝ }
+    ensures { λ t. ⌜ t ≡ placeOf d (netOf (now (tables .entry))) r p (label .0) ⌝ }
     ensures { λ t. ⌜ tripIn (netOf (now (tables .entry))) r t ≡ catch d (netOf (now (tables .entry))) r p (label .0) ⌝ }
     ensures { λ t. ⌜ InRoute (netOf (now (tables .entry))) r t ⌝ }
 {
@@ -39,6 +40,7 @@ pub fn catch_trip(tables: &[u32], d: Direction, r: u32, p: u32, label: Time, rid
     requires { ⌜ OnRoute (now tables) r p ⌝ }
     requires { ⌜ Seated (now tables) r ride ⌝ }
     requires { ⌜ 0 < label .0 ⌝ }
+    ensures { λ e. ⌜ e ≡ caught (now (tables .entry)) r p ride (placeOf d (netOf (now (tables .entry))) r p (label .0)) ⌝ }
     ensures { λ e. ⌜ aboard e ≡ boarded p (aboard ride) (catch d (netOf (now (tables .entry))) r p (label .0)) ⌝ }
     ensures { λ e. ⌜ Seated (now (tables .entry)) r e ⌝ }
 {
@@ -153,13 +155,14 @@ pub fn propose(
 )
     requires { ⌜ Riding (now tables) n k r (now stops) ⌝ }
     requires { ⌜ Sized n m (now words) (now marks) ⌝ }
+    requires { ⌜ Tidy n m (now words) (now marks) ⌝ }
     requires { ⌜ s < n ⌝ }
     requires { ⌜ Seat (now tables) r ride ⌝ }
     ensures { λ _. ⌜ view n m (now (words .exit)) (now (marks .exit))
         ≡ applied d (k * netOf (now (tables .entry)) .stops) s (t .0)
         (rideLeg d (netOf (now (tables .entry))) r ride s (t .0))
         (view n m (now (words .entry)) (now (marks .entry))) ⌝ }
-    ensures { λ _. ⌜ Kept n m (now (words .entry)) (now (marks .entry)) (now (words .exit)) (now (marks .exit)) ⌝ }
+    ensures { λ _. ⌜ Tidy n m (now (words .exit)) (now (marks .exit)) ⌝ }
 {
     let g = leg_from(tables, stops, n, d, k, r, s, t, ride);
     allocator::apply(words, marks, n, m, d, k, s, t, g);

@@ -1,4 +1,4 @@
--- Two results that meet the contract of `solve` are equal: the answer, and every word and byte of everything lent.
+-- Two results that meet the contract of `solve`, or of `run` below it, are equal: the answer, and every word and byte of everything lent.
 -- "two results meeting the statement are proved equal".
 use Prim.Native.Nat.{ℕ, zero, suc, _<_}
 use mathlib.Core.Path.{_≡_, refl, sym, ap, _∙_}
@@ -9,17 +9,18 @@ use Rattle.model.specs.declared.Answer.{Answer}
 use Rattle.model.specs.declared.Query.{Query}
 use Rattle.model.specs.Tables.{Net}
 use Rattle.model.specs.Work.{Work}
-use Rattle.model.specs.Answer.{lowest}
-use Rattle.model.specs.Left.{Workspace}
+use Rattle.model.specs.Answer.{lowest, legsOf}
+use Rattle.model.specs.Left.{Workspace, written}
 use Rattle.repository.specs.NetOf.{netOf}
 use Rattle.repository.specs.Checked.{checkOf}
 use Rattle.allocator.specs.Layout.{view}
 use Rattle.allocator.proofs.Same.{same-words}
 use Rattle.raptor.specs.Solved.{sized, holds, Ended, WorkspaceLeft, Solved}
+use Rattle.raptor.specs.Searching.{Ran}
 
 module _ (n : Net) (q : Query) (w y p v z u : List ℕ) where
   -- slices in which the search ended alike are the same slices
-  ended-same : Ended n q w y p → Ended n q v z u → (w ≡ v) × (y ≡ z) × (p ≡ u)
+  pub ended-same : Ended n q w y p → Ended n q v z u → (w ≡ v) × (y ≡ z) × (p ≡ u)
   unfolding holds
   ended-same a b =
       let e : holds (n .stops) (n .routes) w y p ≡ holds (n .stops) (n .routes) v z u = a .ends ∙ sym (b .ends) in
@@ -47,3 +48,10 @@ solved-unique t q w y p j {w₁ = w₁} {y₁ = y₁} {p₁ = p₁} {w₂ = w₂
     let k = lowest (checkOf t) (sized (netOf t) w y p) (netOf t) q in
     let x = left-same (netOf t) q w₁ y₁ p₁ w₂ y₂ p₂ k (a .workspace) (b .workspace) in
     (a .answers ∙ sym (b .answers), x .0, x .1, x .2, a .journey ∙ sym (b .journey))
+
+pub ran-unique : (n : Net) (q : Query) (j : List ℕ) {r r′ : Answer} {w₁ y₁ p₁ j₁ w₂ y₂ p₂ j₂ : List ℕ}
+    → Ran n q j r w₁ y₁ p₁ j₁ → Ran n q j r′ w₂ y₂ p₂ j₂ → (r ≡ r′) × (w₁ ≡ w₂) × (y₁ ≡ y₂) × (p₁ ≡ p₂) × (j₁ ≡ j₂)
+ran-unique n q j {r} {r′} {w₁} {y₁} {p₁} {j₁} {w₂} {y₂} {p₂} {j₂} a b =
+    let e : r ≡ r′ = a .answers ∙ sym (b .answers) in
+    let s = ended-same n q w₁ y₁ p₁ w₂ y₂ p₂ (a .ended) (b .ended) in
+    (e, s .0, s .1, s .2, a .journey ∙ ap (λ (x : Answer). written x (legsOf n q) j) e ∙ sym (b .journey))

@@ -14,8 +14,7 @@ use Rattle.repository.specs.NetOf.{netOf}
 use Rattle.repository.proofs.Sound.{accepted-sound}
 use Rattle.model.specs.State.{Task, task}
 use Rattle.allocator.specs.Layout.{view, bestOf, markOf}
-use Rattle.allocator.specs.Tidy.{Tidy, Kept}
-use Rattle.allocator.proofs.Keeping.{kept-tidy}
+use Rattle.allocator.specs.Tidy.{Tidy}
 use Rattle.allocator.specs.Operations.{cleared, swapped}
 use Rattle.allocator.specs.Repeated.{startedAll}
 use Rattle.raptor_rounds.specs.Fixed.{Fixed}
@@ -55,22 +54,19 @@ module _ {tables : List ℕ} {n m : ℕ} where
     pub at-goals : Below n gs
     at-goals = h .goals
 
-    pub at-tidy-now : Tidy n m w y
-    at-tidy-now = h .tidy
-
-    pub at-tidy : {w₁ y₁ : List ℕ} → Kept n m w y w₁ y₁ → Tidy n m w₁ y₁
-    at-tidy i = kept-tidy i (h .tidy)
+    pub at-tidy : Tidy n m w y
+    at-tidy = h .tidy
 
     pub at-ready : k < 15 → Ready d mode walking (netOf tables) k (g .time .0) (view n m w y)
     at-ready lt = ready (netOf tables) d mode walking ss gs t (h .rounds) lt refl
 
     pub at-next : {w₁ y₁ : List ℕ} {g₁ : Target} {b : Bool} → k < 15 → b ≡ anyOf (markOf n m y) → b ≡ true
-        → Kept n m w y w₁ y₁ → view n m w₁ y₁ ≡ roundWork d mode walking (netOf tables) k (g .time .0) (view n m w y)
+        → Tidy n m w₁ y₁ → view n m w₁ y₁ ≡ roundWork d mode walking (netOf tables) k (g .time .0) (view n m w y)
         → g₁ ≡ aim d k (bestOf n m w₁) gs g → At tables n m (task d mode walking ss gs t) (k + 1) w₁ y₁ g₁
     unfolding view
     at-next lt eb is i u v = record {
       fixed = h .fixed;
-      tidy = kept-tidy i (h .tidy);
+      tidy = i;
       goals = h .goals;
       rounds = search-on (netOf tables) d mode walking ss gs t (h .rounds) lt eb is u v;
     }

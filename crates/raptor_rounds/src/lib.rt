@@ -3,7 +3,7 @@ ghost use mathlib.Core.Path.{_≡_};
 ghost use Prim.Native.Nat.{_<_};
 ghost use Rattle.model.specs.Round.{aim};
 ghost use Rattle.allocator.specs.Layout.{Words, Sized, view, bestOf};
-ghost use Rattle.allocator.specs.Tidy.{Tidy, Kept};
+ghost use Rattle.allocator.specs.Tidy.{Tidy};
 ghost use Rattle.allocator.specs.Operations.{cleared, holding};
 ghost use Rattle.allocator.specs.Repeated.{startedAll};
 ghost use Rattle.explorer_choosing.specs.Chosen.{openedBy};
@@ -107,9 +107,10 @@ fn target_after(
 // Labels and marks every start stop.
 fn start_all(words: &mut [u32], marks: &mut [u64], n: u32, m: u32, starts: &[u32], t: Time)
     requires { ⌜ Sized n m (now words) (now marks) ⌝ }
+    requires { ⌜ Tidy n m (now words) (now marks) ⌝ }
     requires { ⌜ Below n (now starts) ⌝ }
     ensures { λ _. ⌜ view n m (now (words .exit)) (now (marks .exit)) ≡ startedAll (t .0) (now (starts .entry)) (view n m (now (words .entry)) (now (marks .entry))) ⌝ }
-    ensures { λ _. ⌜ Kept n m (now (words .entry)) (now (marks .entry)) (now (words .exit)) (now (marks .exit)) ⌝ }
+    ensures { λ _. ⌜ Tidy n m (now (words .exit)) (now (marks .exit)) ⌝ }
 {
     let mut i = 0;
     while i < starts.len() {
@@ -140,9 +141,10 @@ fn explore_rides(
     requires { ⌜ Fixed (now tables) n m ⌝ }
     requires { ⌜ k < 15 ⌝ }
     requires { ⌜ Sized n m (now words) (now marks) ⌝ }
+    requires { ⌜ Tidy n m (now words) (now marks) ⌝ }
     requires { ⌜ Placed d (netOf (now tables)) ((view n m (now words) (now marks)) .active) ⌝ }
     ensures { λ _. ⌜ view n m (now (words .exit)) (now (marks .exit)) ≡ ridesWork d (netOf (now (tables .entry))) k (target .0) (view n m (now (words .entry)) (now (marks .entry))) ⌝ }
-    ensures { λ _. ⌜ Kept n m (now (words .entry)) (now (marks .entry)) (now (words .exit)) (now (marks .exit)) ⌝ }
+    ensures { λ _. ⌜ Tidy n m (now (words .exit)) (now (marks .exit)) ⌝ }
 {
     match d {
         Direction::Departure => explorer_rides::explore_routes(
@@ -181,9 +183,10 @@ fn explore_feet(
     requires { ⌜ Fixed (now tables) n m ⌝ }
     requires { ⌜ k < 15 ⌝ }
     requires { ⌜ Sized n m (now words) (now marks) ⌝ }
+    requires { ⌜ Tidy n m (now words) (now marks) ⌝ }
     requires { ⌜ Footing n (view n m (now words) (now marks)) ⌝ }
     ensures { λ _. ⌜ view n m (now (words .exit)) (now (marks .exit)) ≡ feetWork d (netOf (now (tables .entry))) k (target .0) walking (view n m (now (words .entry)) (now (marks .entry))) ⌝ }
-    ensures { λ _. ⌜ Kept n m (now (words .entry)) (now (marks .entry)) (now (words .exit)) (now (marks .exit)) ⌝ }
+    ensures { λ _. ⌜ Tidy n m (now (words .exit)) (now (marks .exit)) ⌝ }
 {
     match d {
         Direction::Departure => explorer_footpaths::explore_transfers(
@@ -221,9 +224,10 @@ fn ride_half(
 )
     requires { ⌜ Fixed (now tables) n m ⌝ }
     requires { ⌜ Sized n m (now words) (now marks) ⌝ }
+    requires { ⌜ Tidy n m (now words) (now marks) ⌝ }
     requires { ⌜ Ready (a .direction) (a .mode) (a .walking) (netOf (now tables)) k (target .0) (view n m (now words) (now marks)) ⌝ }
     ensures { λ _. ⌜ view n m (now (words .exit)) (now (marks .exit)) ≡ ridesWork (a .direction) (netOf (now (tables .entry))) k (target .0) (openedBy (a .mode) (a .direction) (netOf (now (tables .entry))) (view n m (now (words .entry)) (now (marks .entry)))) ⌝ }
-    ensures { λ _. ⌜ Kept n m (now (words .entry)) (now (marks .entry)) (now (words .exit)) (now (marks .exit)) ⌝ }
+    ensures { λ _. ⌜ Tidy n m (now (words .exit)) (now (marks .exit)) ⌝ }
 {
     let d = a.direction;
     let mode = a.mode;
@@ -244,10 +248,11 @@ fn foot_half(
 )
     requires { ⌜ Fixed (now tables) n m ⌝ }
     requires { ⌜ Sized n m (now words) (now marks) ⌝ }
+    requires { ⌜ Tidy n m (now words) (now marks) ⌝ }
     requires { ⌜ k < 15 ⌝ }
     requires { ⌜ Footing n (holding (view n m (now words) (now marks))) ⌝ }
     ensures { λ _. ⌜ view n m (now (words .exit)) (now (marks .exit)) ≡ feetWork (a .direction) (netOf (now (tables .entry))) k (target .0) (a .walking) (holding (view n m (now (words .entry)) (now (marks .entry)))) ⌝ }
-    ensures { λ _. ⌜ Kept n m (now (words .entry)) (now (marks .entry)) (now (words .exit)) (now (marks .exit)) ⌝ }
+    ensures { λ _. ⌜ Tidy n m (now (words .exit)) (now (marks .exit)) ⌝ }
 {
     let d = a.direction;
     let walking = a.walking;
@@ -268,9 +273,10 @@ fn run_round(
 )
     requires { ⌜ Fixed (now tables) n m ⌝ }
     requires { ⌜ Sized n m (now words) (now marks) ⌝ }
+    requires { ⌜ Tidy n m (now words) (now marks) ⌝ }
     requires { ⌜ Ready (a .direction) (a .mode) (a .walking) (netOf (now tables)) k (target .0) (view n m (now words) (now marks)) ⌝ }
     ensures { λ _. ⌜ view n m (now (words .exit)) (now (marks .exit)) ≡ roundWork (a .direction) (a .mode) (a .walking) (netOf (now (tables .entry))) k (target .0) (view n m (now (words .entry)) (now (marks .entry))) ⌝ }
-    ensures { λ _. ⌜ Kept n m (now (words .entry)) (now (marks .entry)) (now (words .exit)) (now (marks .exit)) ⌝ }
+    ensures { λ _. ⌜ Tidy n m (now (words .exit)) (now (marks .exit)) ⌝ }
 {
     ride_half(tables, words, marks, n, m, k, a, target);
     foot_half(tables, words, marks, n, m, k, a, target);
@@ -290,11 +296,12 @@ fn next_round(
 ) -> Target
     requires { ⌜ Fixed (now tables) n m ⌝ }
     requires { ⌜ Sized n m (now words) (now marks) ⌝ }
+    requires { ⌜ Tidy n m (now words) (now marks) ⌝ }
     requires { ⌜ Ready (a .direction) (a .mode) (a .walking) (netOf (now tables)) k (g .time .0) (view n m (now words) (now marks)) ⌝ }
     requires { ⌜ Below n (now goals) ⌝ }
     ensures { λ _. ⌜ view n m (now (words .exit)) (now (marks .exit)) ≡ roundWork (a .direction) (a .mode) (a .walking) (netOf (now (tables .entry))) k (g .time .0) (view n m (now (words .entry)) (now (marks .entry))) ⌝ }
     ensures { λ r. ⌜ r ≡ aim (a .direction) k (bestOf n m (now (words .exit))) (now (goals .entry)) g ⌝ }
-    ensures { λ _. ⌜ Kept n m (now (words .entry)) (now (marks .entry)) (now (words .exit)) (now (marks .exit)) ⌝ }
+    ensures { λ _. ⌜ Tidy n m (now (words .exit)) (now (marks .exit)) ⌝ }
 {
     let seen = g.time;
     let d = a.direction;

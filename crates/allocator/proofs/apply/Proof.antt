@@ -1,7 +1,6 @@
 -- `allocator::apply` meets its contract: by the test: stored, or nothing done.
 -- Assumes nothing.
 use borrow.Author.Needs.{needs}
-use Rattle.allocator.proofs.Keeping.{kept-same}
 use Rattle.allocator.proofs.Operated.{applies, applies-not}
 use Rattle.allocator.proofs.apply.Statement.{statement}
 use Rattle.allocator.proofs.apply.Tie as tie
@@ -28,7 +27,7 @@ same-length-3 : tie.Need-same-length-3
 same-length-3 c = search needs
 
 returns-2 : tie.Need-returns-2
-returns-2 c = (search (needs, applies-not), search (needs, kept-same))
+returns-2 c = (search (needs, applies-not), search needs)
 
 pub apply-spec : {M : Type 1} → statement M
 apply-spec =

@@ -1,7 +1,6 @@
 -- `allocator::begin_choosing` meets its contract: its two calls, one after the other.
 -- Assumes nothing.
 use borrow.Author.Needs.{needs}
-use Rattle.allocator.proofs.Keeping.{kept-then}
 use Rattle.allocator.proofs.begin_choosing.Statement.{statement}
 use Rattle.allocator.proofs.begin_choosing.Tie as tie
 
@@ -18,7 +17,7 @@ same-length-2 : tie.Need-same-length-2
 same-length-2 c = search needs
 
 returns : tie.Need-returns
-returns c = (cc, search (needs, kept-then))
+returns c = (cc, search needs)
 
 pub begin-choosing-spec : {M : Type 1} → statement M
 begin-choosing-spec =

@@ -16,7 +16,7 @@ same-length : tie.Need-same-length
 same-length c = search needs
 
 returns : tie.Need-returns
-returns c = both (unmarked _) (search (needs, does-clear-marks))
+returns c = both (unmarked _) (search (needs, does-clear-marks)) (search needs)
 
 pub clear-marks-spec : {M : Type 1} → statement M
 clear-marks-spec = tie.close (tie.spec pages-of-requires clear-part-requires same-length returns)

@@ -25,7 +25,7 @@ same-length : tie.Need-same-length
 same-length c = search needs
 
 returns : tie.Need-returns
-returns c = both (unmasked _) (search (needs, does-clear-mask))
+returns c = both (unmasked _) (search (needs, does-clear-mask)) (search needs)
 
 pub clear-mask-spec : {M : Type 1} → statement M
 clear-mask-spec =

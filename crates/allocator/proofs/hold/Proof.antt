@@ -25,7 +25,7 @@ same-length-2 : tie.Need-same-length-2
 same-length-2 c = search needs
 
 returns : tie.Need-returns
-returns c = both holding (search (needs, does-hold))
+returns c = both holding (search (needs, does-hold)) (search needs)
 
 pub hold-spec : {M : Type 1} → statement M
 hold-spec =

@@ -25,7 +25,7 @@ same-length-2 : tie.Need-same-length-2
 same-length-2 c = search needs
 
 returns : tie.Need-returns
-returns c = both (started _ _) (search (needs, does-start))
+returns c = both (started _ _) (search (needs, does-start)) (search needs)
 
 pub start-spec : {M : Type 1} → statement M
 start-spec =

@@ -46,7 +46,7 @@ same-length-2 : tie.Need-same-length-2
 same-length-2 c = search needs
 
 returns : tie.Need-returns
-returns c = both (stored _ _ _ _) (search (needs, does-store))
+returns c = both (stored _ _ _ _) (search (needs, does-store)) (search needs)
 
 pub store-spec : {M : Type 1} → statement M
 store-spec =

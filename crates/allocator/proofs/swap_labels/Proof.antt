@@ -19,7 +19,7 @@ same-length : tie.Need-same-length
 same-length c = search needs
 
 returns : tie.Need-returns
-returns c = both (swapped _) (search (needs, does-swap))
+returns c = both (swapped _) (search (needs, does-swap)) (search needs)
 
 pub swap-labels-spec : {M : Type 1} → statement M
 swap-labels-spec = tie.close (tie.spec mul-e copy-requires fill-requires same-length returns)

@@ -6,8 +6,7 @@ use lib.ListN.{length}
 use Rattle.repository.specs.NetOf.{netOf}
 use Rattle.repository.specs.Rows.{calls, firstRow, rest, callRoute}
 use Rattle.allocator.specs.Layout.{view}
-use Rattle.allocator.specs.Tidy.{Kept}
-use Rattle.allocator.proofs.Keeping.{kept-same, kept-then}
+use Rattle.allocator.specs.Tidy.{Tidy}
 use Rattle.explorer.specs.Turns.{Turn}
 use Rattle.explorer.proofs.Turns.{row-end}
 use Rattle.explorer_choosing.specs.Chosen.{chosenBy, chosenAt}
@@ -19,7 +18,7 @@ abbrev Inv-loop : tie.InvT-loop
 Inv-loop tables words₀ marks₀ n m d s end j₀ words marks j =
     Turn (chosenBy d (netOf tables) s) (chosenAt d (netOf tables) s (view n m words₀ marks₀)) (rest (callRoute tables) j end)
     (view n m words marks)
-    × (firstRow calls tables s ≤ j) × Kept n m words₀ marks₀ words marks
+    × (firstRow calls tables s ≤ j) × Tidy n m words marks
     × (length words ≡ length words₀) × (length marks ≡ length marks₀)
 
 abbrev μ-loop : tie.MeasureT-loop
@@ -32,7 +31,7 @@ calls-from-requires : tie.Need-calls-from-requires Inv-loop μ-loop
 calls-from-requires c κs = search needs
 
 loop-holds : tie.Need-loop-holds Inv-loop μ-loop
-loop-holds c = (search (needs, route-start), search needs, search (needs, kept-same), search needs, search needs)
+loop-holds c = (search (needs, route-start), search needs, search needs, search needs, search needs)
 
 call-route-requires : tie.Need-call-route-requires Inv-loop μ-loop
 call-route-requires c κs = search needs
@@ -41,7 +40,7 @@ index-in-route-requires : tie.Need-index-in-route-requires Inv-loop μ-loop
 index-in-route-requires c κs = search needs
 
 activate-requires : tie.Need-activate-requires Inv-loop μ-loop
-activate-requires c κs = (search needs, search (needs, route-in))
+activate-requires c κs = (search needs, (search needs, search (needs, route-in)))
 
 add-j : tie.Need-add-j Inv-loop μ-loop
 add-j c = search needs
@@ -50,7 +49,7 @@ loop-less : tie.Need-loop-less Inv-loop μ-loop
 loop-less c = search needs
 
 loop-again : tie.Need-loop-again Inv-loop μ-loop
-loop-again c = (search (needs, route-next), search needs, search (needs, kept-then), search needs, search needs)
+loop-again c = (search (needs, route-next), search needs, search needs, search needs, search needs)
 
 same-length : tie.Need-same-length Inv-loop μ-loop
 same-length c = search needs

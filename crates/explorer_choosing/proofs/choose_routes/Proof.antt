@@ -6,8 +6,7 @@ use lib.ListN.{length}
 use Rattle.repository.specs.NetOf.{netOf}
 use Rattle.allocator.specs.Layout.{view, markOf}
 use Rattle.allocator.specs.Marked.{after}
-use Rattle.allocator.specs.Tidy.{Kept}
-use Rattle.allocator.proofs.Keeping.{kept-same, kept-then}
+use Rattle.allocator.specs.Tidy.{Tidy}
 use Rattle.explorer.specs.Turns.{Turn}
 use Rattle.explorer.proofs.Turns.{mark-end}
 use Rattle.explorer.proofs.Marked.{mark-long, visit-below, visit-less, visit-fits, visit-past}
@@ -20,13 +19,13 @@ abbrev Inv-loop : tie.InvT-loop
 Inv-loop tables words₀ marks₀ n m d at₀ words marks at =
     Turn (chosenAt d (netOf tables)) (chosen d (netOf tables) (view n m words₀ marks₀))
     (after at (markOf n m marks)) (view n m words marks)
-    × Kept n m words₀ marks₀ words marks × (length words ≡ length words₀) × (length marks ≡ length marks₀)
+    × Tidy n m words marks × (length words ≡ length words₀) × (length marks ≡ length marks₀)
 
 abbrev μ-loop : tie.MeasureT-loop
 μ-loop tables words₀ marks₀ n m d at₀ words marks at = n - at
 
 loop-holds : tie.Need-loop-holds Inv-loop μ-loop
-loop-holds c = (search (needs, stop-start), search (needs, kept-same), search needs, search needs)
+loop-holds c = (search (needs, stop-start), search needs, search needs, search needs)
 
 next-marked-requires : tie.Need-next-marked-requires Inv-loop μ-loop
 next-marked-requires c κs = search needs
@@ -38,7 +37,8 @@ cast-choose-at : tie.Need-cast-choose-at Inv-loop μ-loop
 cast-choose-at c = record { fits = search (needs, visit-fits, mark-long) }
 
 choose-at-requires : tie.Need-choose-at-requires Inv-loop μ-loop
-choose-at-requires c κs = (search needs, (search needs, (search needs, (search needs, search (needs, visit-below, mark-long)))))
+choose-at-requires c κs =
+    (search needs, (search needs, (search needs, (search needs, (search needs, search (needs, visit-below, mark-long))))))
 
 add-at : tie.Need-add-at Inv-loop μ-loop
 add-at c = record { fits = search (needs, visit-past, mark-long) }
@@ -47,7 +47,7 @@ loop-less : tie.Need-loop-less Inv-loop μ-loop
 loop-less c = search (needs, visit-less, mark-long)
 
 loop-again : tie.Need-loop-again Inv-loop μ-loop
-loop-again c = (search (needs, stop-next), search (needs, kept-then), search needs, search needs)
+loop-again c = (search (needs, stop-next), search needs, search needs, search needs)
 
 enum-told : tie.Need-enum-told Inv-loop μ-loop
 enum-told c = search needs

@@ -1,6 +1,5 @@
 -- `explore_path`: a footpath that passes the target's test is applied, another changes nothing.
 use borrow.Author.Needs.{needs}
-use Rattle.allocator.proofs.Keeping.{kept-same}
 use Rattle.explorer_footpaths.proofs.Steps.{path-taken, path-left}
 use Rattle.explorer_footpaths.proofs.explore_path.Statement.{statement}
 use Rattle.explorer_footpaths.proofs.explore_path.Tie as tie
@@ -15,7 +14,7 @@ leg-of-requires : tie.Need-leg-of-requires
 leg-of-requires c κs = search needs
 
 apply-requires : tie.Need-apply-requires
-apply-requires c κs = search needs
+apply-requires c κs = (search needs, (search needs, (search needs, search needs)))
 
 same-length : tie.Need-same-length
 same-length c = search needs
@@ -27,7 +26,7 @@ returns : tie.Need-returns
 returns c = (search (needs, path-taken), search needs)
 
 returns-2 : tie.Need-returns-2
-returns-2 c = (search (needs, path-left), search (needs, kept-same))
+returns-2 c = (search (needs, path-left), search needs)
 
 pub explore-path-spec : {M : Type 1} → statement M
 explore-path-spec =

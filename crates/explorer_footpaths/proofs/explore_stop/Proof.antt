@@ -1,6 +1,5 @@
 -- `explore_stop`: the label that was read before the transfers is still the one that is held after them.
 use borrow.Author.Needs.{needs}
-use Rattle.allocator.proofs.Keeping.{kept-then}
 use Rattle.explorer_footpaths.proofs.Stops.{leaving-at, stop-only, stop-walks}
 use Rattle.explorer_footpaths.proofs.explore_stop.Statement.{statement}
 use Rattle.explorer_footpaths.proofs.explore_stop.Tie as tie
@@ -9,10 +8,10 @@ held-at-requires : tie.Need-held-at-requires
 held-at-requires c κs = search needs
 
 explore-transfers-at-requires : tie.Need-explore-transfers-at-requires
-explore-transfers-at-requires c κs = (search (needs, leaving-at), search needs)
+explore-transfers-at-requires c κs = (search (needs, leaving-at), (search needs, search needs))
 
 explore-walks-at-requires : tie.Need-explore-walks-at-requires
-explore-walks-at-requires c κs = (search (needs, leaving-at), search needs)
+explore-walks-at-requires c κs = (search (needs, leaving-at), (search needs, search needs))
 
 same-length : tie.Need-same-length
 same-length c = search needs
@@ -21,7 +20,7 @@ same-length-2 : tie.Need-same-length-2
 same-length-2 c = search needs
 
 returns : tie.Need-returns
-returns c = (search (needs, stop-walks), search (needs, kept-then))
+returns c = (search (needs, stop-walks), search needs)
 
 same-length-3 : tie.Need-same-length-3
 same-length-3 c = search needs

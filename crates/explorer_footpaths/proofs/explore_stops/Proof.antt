@@ -7,8 +7,7 @@ use Rattle.shared.specs.declared.Time.{Time}
 use Rattle.repository.specs.NetOf.{netOf}
 use Rattle.allocator.specs.Layout.{view, heldMarkOf}
 use Rattle.allocator.specs.Marked.{after}
-use Rattle.allocator.specs.Tidy.{Kept}
-use Rattle.allocator.proofs.Keeping.{kept-same, kept-then}
+use Rattle.allocator.specs.Tidy.{Tidy}
 use Rattle.explorer.specs.Fused.{stopWork, feetWork}
 use Rattle.explorer.specs.Turns.{Turn}
 use Rattle.explorer.proofs.Turns.{mark-end}
@@ -23,14 +22,14 @@ Inv-loop tables words₀ marks₀ n m d k target walking at₀ words marks at =
     Turn (stopWork d (netOf tables) k (target .0) walking)
     (feetWork d (netOf tables) k (target .0) walking (view n m words₀ marks₀))
     (after at (heldMarkOf n m marks)) (view n m words marks)
-    × Footing n (view n m words marks) × Kept n m words₀ marks₀ words marks
+    × Footing n (view n m words marks) × Tidy n m words marks
     × (length words ≡ length words₀) × (length marks ≡ length marks₀)
 
 abbrev μ-loop : tie.MeasureT-loop
 μ-loop tables words₀ marks₀ n m d k target walking at₀ words marks at = n - at
 
 loop-holds : tie.Need-loop-holds Inv-loop μ-loop
-loop-holds c = (search (needs, foot-start), search needs, search (needs, kept-same), search needs, search needs)
+loop-holds c = (search (needs, foot-start), search needs, search needs, search needs, search needs)
 
 next-held-requires : tie.Need-next-held-requires Inv-loop μ-loop
 next-held-requires c κs = search needs
@@ -42,7 +41,7 @@ cast-explore-stop : tie.Need-cast-explore-stop Inv-loop μ-loop
 cast-explore-stop c = record { fits = search (needs, visit-fits, held-long) }
 
 explore-stop-requires : tie.Need-explore-stop-requires Inv-loop μ-loop
-explore-stop-requires c κs = (search (needs, leaving), search needs)
+explore-stop-requires c κs = (search (needs, leaving), (search needs, search needs))
 
 add-at : tie.Need-add-at Inv-loop μ-loop
 add-at c = record { fits = search (needs, visit-past, held-long) }
@@ -51,7 +50,7 @@ loop-less : tie.Need-loop-less Inv-loop μ-loop
 loop-less c = search (needs, visit-less, held-long)
 
 loop-again : tie.Need-loop-again Inv-loop μ-loop
-loop-again c = (search (needs, foot-next), search (needs, footing-held), search (needs, kept-then), search needs, search needs)
+loop-again c = (search (needs, foot-next), search (needs, footing-held), search needs, search needs, search needs)
 
 enum-told : tie.Need-enum-told Inv-loop μ-loop
 enum-told c = search needs

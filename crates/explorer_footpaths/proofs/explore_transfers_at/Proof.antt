@@ -10,8 +10,7 @@ use Rattle.repository.specs.NetOf.{transferRow, netOf}
 use Rattle.repository.specs.Rows.{transfers, firstRow, rest}
 use Rattle.repository.proofs.Lists.{transfers-are}
 use Rattle.allocator.specs.Layout.{view}
-use Rattle.allocator.specs.Tidy.{Kept}
-use Rattle.allocator.proofs.Keeping.{kept-same, kept-then}
+use Rattle.allocator.specs.Tidy.{Tidy}
 use Rattle.explorer.specs.Turns.{inTurn, Turn}
 use Rattle.explorer.proofs.Turns.{row-next, row-end}
 use Rattle.explorer_footpaths.specs.Footing.{footFrom}
@@ -24,7 +23,7 @@ Inv-loop tables words₀ marks₀ n m d k target s x end j₀ words marks j =
     Turn (footFrom d n k (target .0) Transfer s (x .0))
     (inTurn (footFrom d n k (target .0) Transfer s (x .0)) (netOf tables .transfers s) (view n m words₀ marks₀))
     (rest (transferRow tables) j end) (view n m words marks)
-    × (firstRow transfers tables s ≤ j) × Kept n m words₀ marks₀ words marks
+    × (firstRow transfers tables s ≤ j) × Tidy n m words marks
     × (length words ≡ length words₀) × (length marks ≡ length marks₀)
 
 abbrev μ-loop : tie.MeasureT-loop
@@ -37,10 +36,10 @@ transfers-from-requires : tie.Need-transfers-from-requires Inv-loop μ-loop
 transfers-from-requires c κs = search needs
 
 loop-holds : tie.Need-loop-holds Inv-loop μ-loop
-loop-holds c = (search (needs, path-start, transfers-are), search needs, search (needs, kept-same), search needs, search needs)
+loop-holds c = (search (needs, path-start, transfers-are), search needs, search needs, search needs, search needs)
 
 explore-transfer-requires : tie.Need-explore-transfer-requires Inv-loop μ-loop
-explore-transfer-requires c κs = (search needs, (search (needs, row-here), search needs))
+explore-transfer-requires c κs = (search needs, (search (needs, row-here), (search needs, search needs)))
 
 add-j : tie.Need-add-j Inv-loop μ-loop
 add-j c = search needs
@@ -49,7 +48,7 @@ loop-less : tie.Need-loop-less Inv-loop μ-loop
 loop-less c = search needs
 
 loop-again : tie.Need-loop-again Inv-loop μ-loop
-loop-again c = (search (needs, row-next), search needs, search (needs, kept-then), search needs, search needs)
+loop-again c = (search (needs, row-next), search needs, search needs, search needs, search needs)
 
 same-length : tie.Need-same-length Inv-loop μ-loop
 same-length c = search needs

@@ -1,7 +1,6 @@
 -- `explore_walk`: the row leads to a stop, and takes no more than a day; where it can gain nothing, nothing is done.
 use borrow.Author.Needs.{needs}
 use Rattle.repository.proofs.Ranges.{row-known}
-use Rattle.allocator.proofs.Keeping.{kept-same}
 use Rattle.explorer_footpaths.proofs.Gaining.{path-lost}
 use Rattle.explorer_footpaths.proofs.Paths.{walk-in, walk-most, row-path}
 use Rattle.explorer_footpaths.proofs.explore_walk.Statement.{statement}
@@ -17,7 +16,8 @@ walk-duration-requires : tie.Need-walk-duration-requires
 walk-duration-requires c κs = search (needs, row-known)
 
 explore-path-requires : tie.Need-explore-path-requires
-explore-path-requires c κs = (search needs, (search needs, (search needs, (search (needs, walk-in), search (needs, walk-most)))))
+explore-path-requires c κs =
+    (search needs, (search needs, (search needs, (search needs, (search (needs, walk-in), search (needs, walk-most))))))
 
 same-length : tie.Need-same-length
 same-length c = search needs
@@ -32,7 +32,7 @@ same-length-3 : tie.Need-same-length-3
 same-length-3 c = search needs
 
 returns-2 : tie.Need-returns-2
-returns-2 c = (search (needs, path-lost), search (needs, kept-same))
+returns-2 c = (search (needs, path-lost), search needs)
 
 pub explore-walk-spec : {M : Type 1} → statement M
 explore-walk-spec =

@@ -4,7 +4,7 @@ use mathlib.Core.Path.{_≡_}
 use Prim.Native.Nat.{_-_}
 use lib.ListN.{length}
 use Rattle.model.specs.declared.Direction.the-variants.{Arrival}
-use Rattle.explorer_rides.proofs.Routes.{fixed, next-below, next-fits, next-room, next-less, Exploring, exploring-start, exploring-step, exploring-end, exploring-kept, placed-on}
+use Rattle.explorer_rides.proofs.Routes.{fixed, next-below, next-fits, next-room, next-less, Exploring, exploring-start, exploring-step, exploring-end, exploring-tidy, placed-on}
 use Rattle.explorer_rides.proofs.explore_routes_reverse.Statement.{statement}
 use Rattle.explorer_rides.proofs.explore_routes_reverse.Tie as tie
 
@@ -29,8 +29,10 @@ cast-explore-route : tie.Need-cast-explore-route Inv-loop μ-loop
 cast-explore-route c = record { fits = search (needs, next-fits) }
 
 explore-route-requires : tie.Need-explore-route-requires Inv-loop μ-loop
-explore-route-requires c κs =
-    (search (needs, fixed), (search needs, (search (needs, next-below), search (needs, placed-on, next-below))))
+explore-route-requires c κs = (
+  search (needs, fixed),
+  (search needs, (search (needs, exploring-tidy), (search (needs, next-below), search (needs, placed-on, next-below)))),
+)
 
 add-from : tie.Need-add-from Inv-loop μ-loop
 add-from c = record { fits = search (needs, next-room) }
@@ -51,7 +53,7 @@ same-length-2 : tie.Need-same-length-2 Inv-loop μ-loop
 same-length-2 c = search needs
 
 returns : tie.Need-returns Inv-loop μ-loop
-returns c = (search (needs, exploring-end), search (needs, exploring-kept))
+returns c = (search (needs, exploring-end), search (needs, exploring-tidy))
 
 pub explore-routes-reverse-spec : {M : Type 1} → statement M
 explore-routes-reverse-spec =

@@ -1,6 +1,6 @@
 -- `raptor_rounds::explore_feet` meets its contract: each direction has its own footpaths.
 use borrow.Author.Needs.{needs}
-use Rattle.raptor_rounds.specs.Steps.{feet-as, feet-any}
+use Rattle.raptor_rounds.specs.Steps.{fixed-accepted, fixed-stops, feet-as, feet-any}
 use Rattle.raptor_rounds.proofs.explore_feet.Statement.{statement}
 use Rattle.raptor_rounds.proofs.explore_feet.Tie as tie
 
@@ -8,13 +8,13 @@ enum-told : tie.Need-enum-told
 enum-told c = search needs
 
 explore-transfers-requires : tie.Need-explore-transfers-requires
-explore-transfers-requires c κs = search needs
+explore-transfers-requires c κs = (search (needs, fixed-accepted), (search (needs, fixed-stops), (search needs, (search needs, (search needs, search needs)))))
 
 enum-told-2 : tie.Need-enum-told-2
 enum-told-2 c = search needs
 
 explore-transfers-reverse-requires : tie.Need-explore-transfers-reverse-requires
-explore-transfers-reverse-requires c κs = search needs
+explore-transfers-reverse-requires c κs = (search (needs, fixed-accepted), (search (needs, fixed-stops), (search needs, (search needs, (search needs, search needs)))))
 
 same-length : tie.Need-same-length
 same-length c = search needs

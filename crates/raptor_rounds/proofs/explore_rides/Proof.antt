@@ -8,13 +8,13 @@ enum-told : tie.Need-enum-told
 enum-told c = search needs
 
 explore-routes-requires : tie.Need-explore-routes-requires
-explore-routes-requires c κs = (search (needs, fixed-accepted), (search (needs, fixed-stops), (search (needs, fixed-routes), (search needs, search needs))))
+explore-routes-requires c κs = (search (needs, fixed-accepted), (search (needs, fixed-stops), (search (needs, fixed-routes), (search needs, (search needs, search needs)))))
 
 enum-told-2 : tie.Need-enum-told-2
 enum-told-2 c = search needs
 
 explore-routes-reverse-requires : tie.Need-explore-routes-reverse-requires
-explore-routes-reverse-requires c κs = (search (needs, fixed-accepted), (search (needs, fixed-stops), (search (needs, fixed-routes), (search needs, (search needs, search (needs, placed-as))))))
+explore-routes-reverse-requires c κs = (search (needs, fixed-accepted), (search (needs, fixed-stops), (search (needs, fixed-routes), (search needs, (search needs, (search needs, search (needs, placed-as)))))))
 
 same-length : tie.Need-same-length
 same-length c = search needs

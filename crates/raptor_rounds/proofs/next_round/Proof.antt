@@ -4,7 +4,7 @@ use Rattle.raptor_rounds.proofs.next_round.Statement.{statement}
 use Rattle.raptor_rounds.proofs.next_round.Tie as tie
 
 run-round-requires : tie.Need-run-round-requires
-run-round-requires c κs = search needs
+run-round-requires c κs = (search needs, (search needs, (search needs, search needs)))
 
 target-after-requires : tie.Need-target-after-requires
 target-after-requires c κs = search needs

@@ -4,7 +4,7 @@ use Prim.Native.Nat.{_-_}
 use mathlib.Core.Path.{_≡_}
 use lib.ListN.{length}
 use Rattle.model.specs.State.{task}
-use Rattle.raptor_rounds.specs.Loop.{At, at-fixed, at-goals, at-ready, at-next, at-end, at-all, at-tidy, at-tidy-now}
+use Rattle.raptor_rounds.specs.Loop.{At, at-fixed, at-goals, at-ready, at-next, at-end, at-all, at-tidy}
 use Rattle.raptor_rounds.proofs.rounds.Statement.{statement}
 use Rattle.raptor_rounds.proofs.rounds.Tie as tie
 
@@ -23,7 +23,7 @@ any-marked-requires : tie.Need-any-marked-requires Inv-loop μ-loop
 any-marked-requires c κs = search needs
 
 next-round-requires : tie.Need-next-round-requires Inv-loop μ-loop
-next-round-requires c κs = (search (needs, at-fixed), (search needs, (search (needs, at-ready), search (needs, at-goals))))
+next-round-requires c κs = (search (needs, at-fixed), (search needs, (search (needs, at-tidy), (search (needs, at-ready), search (needs, at-goals)))))
 
 add-k : tie.Need-add-k Inv-loop μ-loop
 add-k c = search needs
@@ -35,7 +35,7 @@ loop-again : tie.Need-loop-again Inv-loop μ-loop
 loop-again c = (search (needs, at-next), search needs, search needs)
 
 swap-labels-requires : tie.Need-swap-labels-requires Inv-loop μ-loop
-swap-labels-requires c κs = search needs
+swap-labels-requires c κs = (search needs, search (needs, at-tidy))
 
 same-length : tie.Need-same-length Inv-loop μ-loop
 same-length c = search needs
@@ -44,7 +44,7 @@ same-length-2 : tie.Need-same-length-2 Inv-loop μ-loop
 same-length-2 c = search needs
 
 returns : tie.Need-returns Inv-loop μ-loop
-returns c = (search (needs, at-end), search (needs, at-tidy))
+returns c = (search (needs, at-end), search needs)
 
 same-length-3 : tie.Need-same-length-3 Inv-loop μ-loop
 same-length-3 c = search needs
@@ -53,7 +53,7 @@ same-length-4 : tie.Need-same-length-4 Inv-loop μ-loop
 same-length-4 c = search needs
 
 returns-2 : tie.Need-returns-2 Inv-loop μ-loop
-returns-2 c = (search (needs, at-all), search (needs, at-tidy-now))
+returns-2 c = (search (needs, at-all), search (needs, at-tidy))
 
 pub rounds-spec : {M : Type 1} → statement M
 rounds-spec =

@@ -4,8 +4,7 @@ use Prim.Native.Nat.{_-_}
 use mathlib.Core.Path.{_≡_}
 use lib.ListN.{length}
 use Rattle.allocator.specs.Layout.{view}
-use Rattle.allocator.specs.Tidy.{Kept}
-use Rattle.allocator.proofs.Keeping.{kept-same, kept-then}
+use Rattle.allocator.specs.Tidy.{Tidy}
 use Rattle.raptor_rounds.specs.Stops.{stop-below}
 use Rattle.raptor_rounds.specs.Starting.{Starting, starting-none, starting-on, starting-all}
 use Rattle.raptor_rounds.proofs.start_all.Statement.{statement}
@@ -13,14 +12,14 @@ use Rattle.raptor_rounds.proofs.start_all.Tie as tie
 
 abbrev Inv-loop : tie.InvT-loop
 Inv-loop words₀ marks₀ n m starts t i₀ words marks i =
-    Starting (t .0) starts (view n m words₀ marks₀) (view n m words marks) i × Kept n m words₀ marks₀ words marks
+    Starting (t .0) starts (view n m words₀ marks₀) (view n m words marks) i × Tidy n m words marks
     × (length words ≡ length words₀) × (length marks ≡ length marks₀)
 
 abbrev μ-loop : tie.MeasureT-loop
 μ-loop words₀ marks₀ n m starts t i₀ words marks i = length starts - i
 
 loop-holds : tie.Need-loop-holds Inv-loop μ-loop
-loop-holds c = (search (needs, starting-none), search (needs, kept-same), search needs, search needs)
+loop-holds c = (search (needs, starting-none), search needs, search needs, search needs)
 
 mul-start : tie.Need-mul-start Inv-loop μ-loop
 mul-start c = search needs
@@ -29,7 +28,7 @@ shared-slice-read-start : tie.Need-shared-slice-read-start Inv-loop μ-loop
 shared-slice-read-start c = search needs
 
 start-requires : tie.Need-start-requires Inv-loop μ-loop
-start-requires c κs = (search needs, search (needs, stop-below))
+start-requires c κs = (search needs, (search needs, search (needs, stop-below)))
 
 add-i : tie.Need-add-i Inv-loop μ-loop
 add-i c = search needs
@@ -38,7 +37,7 @@ loop-less : tie.Need-loop-less Inv-loop μ-loop
 loop-less c = search needs
 
 loop-again : tie.Need-loop-again Inv-loop μ-loop
-loop-again c = (search (needs, starting-on), search (needs, kept-then), search needs, search needs)
+loop-again c = (search (needs, starting-on), search needs, search needs, search needs)
 
 same-length : tie.Need-same-length Inv-loop μ-loop
 same-length c = search needs

@@ -1,13 +1,12 @@
 -- `alight`: who is aboard proposes, arrival.
 use borrow.Author.Needs.{needs}
-use Rattle.allocator.proofs.Keeping.{kept-same}
 use Rattle.explorer_rides.proofs.Seats.{stop-in, seat-on, times-known}
 use Rattle.explorer_rides.proofs.Alighting.{alight-off, alight-not, alight-take}
 use Rattle.explorer_rides.proofs.arrival.alight.Statement.{statement}
 use Rattle.explorer_rides.proofs.arrival.alight.Tie as tie
 
 returns : tie.Need-returns
-returns c = (search (needs, alight-off), search (needs, kept-same))
+returns c = (search (needs, alight-off), search needs)
 
 departure-in-requires : tie.Need-departure-in-requires
 departure-in-requires c κs = search (needs, times-known)
@@ -16,7 +15,7 @@ passes-requires : tie.Need-passes-requires
 passes-requires c κs = (search needs, search (needs, stop-in))
 
 propose-requires : tie.Need-propose-requires
-propose-requires c κs = (search needs, (search needs, (search (needs, stop-in), search (needs, seat-on))))
+propose-requires c κs = (search needs, (search needs, (search needs, (search (needs, stop-in), search (needs, seat-on)))))
 
 same-length : tie.Need-same-length
 same-length c = search needs
@@ -31,7 +30,7 @@ same-length-3 : tie.Need-same-length-3
 same-length-3 c = search needs
 
 returns-3 : tie.Need-returns-3
-returns-3 c = (search (needs, alight-not), search (needs, kept-same))
+returns-3 c = (search (needs, alight-not), search needs)
 
 pub alight-spec : {M : Type 1} → statement M
 alight-spec =

@@ -15,7 +15,7 @@ prev-at-requires : tie.Need-prev-at-requires
 prev-at-requires c κs = search (needs, stop-here)
 
 alight-requires : tie.Need-alight-requires
-alight-requires c κs = (search (needs, stop-read), (search needs, (search needs, (search needs, search needs))))
+alight-requires c κs = (search (needs, stop-read), (search needs, (search needs, (search needs, (search needs, search needs)))))
 
 board-requires : tie.Need-board-requires
 board-requires c κs = search needs

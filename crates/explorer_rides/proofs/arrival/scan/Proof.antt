@@ -5,7 +5,7 @@ use Prim.Native.Nat.{_+_, _-_, _≤_}
 use lib.ListN.{length}
 use Rattle.model.specs.declared.Direction.the-variants.{Arrival}
 use Rattle.repository.specs.NetOf.{netOf}
-use Rattle.explorer_rides.proofs.Scanning.{left, course-down, left-down, left-none, mark-fits, Along, along-start, along-step, along-end, along-kept}
+use Rattle.explorer_rides.proofs.Scanning.{left, course-down, left-down, left-none, mark-fits, Along, along-start, along-step, along-end, along-tidy}
 use Rattle.explorer_rides.proofs.arrival.scan.Statement.{statement}
 use Rattle.explorer_rides.proofs.arrival.scan.Tie as tie
 
@@ -28,7 +28,7 @@ sub-p : tie.Need-sub-p Inv-loop μ-loop
 sub-p c = search needs
 
 ride-at-requires : tie.Need-ride-at-requires Inv-loop μ-loop
-ride-at-requires c κs = (search needs, (search needs, (search needs, search needs)))
+ride-at-requires c κs = (search needs, (search needs, (search needs, (search needs, search (needs, along-tidy)))))
 
 loop-less : tie.Need-loop-less Inv-loop μ-loop
 loop-less c = search needs
@@ -43,7 +43,7 @@ same-length-2 : tie.Need-same-length-2 Inv-loop μ-loop
 same-length-2 c = search needs
 
 returns : tie.Need-returns Inv-loop μ-loop
-returns c = (search (needs, along-end, left-none), search (needs, along-kept))
+returns c = (search (needs, along-end, left-none), search (needs, along-tidy))
 
 pub scan-spec : {M : Type 1} → statement M
 scan-spec =

@@ -11,7 +11,7 @@ route-stops-requires : tie.Need-route-stops-requires
 route-stops-requires c κs = search needs
 
 scan-requires : tie.Need-scan-requires
-scan-requires c κs = (search (needs, riding), search needs)
+scan-requires c κs = (search (needs, riding), (search needs, search needs))
 
 same-length : tie.Need-same-length
 same-length c = search needs

@@ -5,7 +5,7 @@ use Prim.Native.Nat.{_-_}
 use lib.ListN.{length}
 use Rattle.model.specs.declared.Direction.the-variants.{Departure}
 use Rattle.repository.specs.NetOf.{netOf}
-use Rattle.explorer_rides.proofs.Scanning.{left, course-up, left-up, left-end, Along, along-start, along-step, along-end, along-kept}
+use Rattle.explorer_rides.proofs.Scanning.{left, course-up, left-up, left-end, Along, along-start, along-step, along-end, along-tidy}
 use Rattle.explorer_rides.proofs.departure.scan.Statement.{statement}
 use Rattle.explorer_rides.proofs.departure.scan.Tie as tie
 
@@ -24,7 +24,7 @@ loop-holds : tie.Need-loop-holds Inv-loop μ-loop
 loop-holds c = (search (needs, along-start, course-up), search needs, search needs)
 
 ride-at-requires : tie.Need-ride-at-requires Inv-loop μ-loop
-ride-at-requires c κs = (search needs, (search needs, (search needs, search needs)))
+ride-at-requires c κs = (search needs, (search needs, (search needs, (search needs, search (needs, along-tidy)))))
 
 add-p : tie.Need-add-p Inv-loop μ-loop
 add-p c = search needs
@@ -42,7 +42,7 @@ same-length-2 : tie.Need-same-length-2 Inv-loop μ-loop
 same-length-2 c = search needs
 
 returns : tie.Need-returns Inv-loop μ-loop
-returns c = (search (needs, along-end, left-end), search (needs, along-kept))
+returns c = (search (needs, along-end, left-end), search (needs, along-tidy))
 
 pub scan-spec : {M : Type 1} → statement M
 scan-spec =

@@ -8,7 +8,7 @@ leg-from-requires : tie.Need-leg-from-requires
 leg-from-requires c κs = search needs
 
 apply-requires : tie.Need-apply-requires
-apply-requires c κs = search needs
+apply-requires c κs = (search needs, (search needs, (search needs, search needs)))
 
 same-length : tie.Need-same-length
 same-length c = search needs

@@ -1,0 +1,33 @@
+-- Two results of one operation on the workspace are equal, word for word: what its contract says of the state, with `Tidy` and the length that a
+-- lent slice keeps, leaves one workspace. One law for all of them: the state x is what the operation's contract names.
+-- Assumes nothing.
+use mathlib.Core.Path.{_≡_, sym, _∙_}
+use mathlib.Core.List.{List}
+use Prim.Native.Nat.{ℕ}
+use lib.ListN.{length}
+use Rattle.model.specs.Work.{Work}
+use Rattle.allocator.specs.Layout.{Sized, view}
+use Rattle.allocator.specs.Tidy.{Tidy}
+use Rattle.allocator.specs.Operations.{unmarked}
+use Rattle.allocator.proofs.Does.{words-sized, marks-sized}
+use Rattle.allocator.proofs.Same.{same-words}
+
+-- the slices w and m were lent, v and n are what they hold now: the state x
+pub record Leaves (s r : ℕ) (w m : List ℕ) (x : Work) (v n : List ℕ) : Type 0 where
+  pub is : view s r v n ≡ x
+  pub tidy : Tidy s r v n
+  pub words-long : length v ≡ length w
+  pub marks-long : length n ≡ length m
+
+module _ {s r : ℕ} {w m : List ℕ} (z : Sized s r w m) where
+  pub leaves-sized : {x : Work} {v n : List ℕ} → Leaves s r w m x v n → Sized s r v n
+  leaves-sized h = marks-sized (words-sized z (h .words-long)) (h .marks-long)
+
+  pub leaves-unique : {x : Work} {v n v′ n′ : List ℕ} → Leaves s r w m x v n → Leaves s r w m x v′ n′ → (v ≡ v′) × (n ≡ n′)
+  leaves-unique {x} {v} {n} {v′} {n′} a b =
+      same-words s r v n v′ n′ (leaves-sized a) (leaves-sized b) (a .tidy) (b .tidy) (a .is ∙ sym (b .is))
+
+-- so no second result of `clear_marks`: a mark beyond the last stop cannot stay
+pub clear-marks-unique : {s r : ℕ} {w m v n v′ n′ : List ℕ} → Sized s r w m
+    → Leaves s r w m (unmarked s (view s r w m)) v n → Leaves s r w m (unmarked s (view s r w m)) v′ n′ → (v ≡ v′) × (n ≡ n′)
+clear-marks-unique z a b = leaves-unique z a b
