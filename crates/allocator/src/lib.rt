@@ -293,7 +293,8 @@ pub fn any_marked(marks: &[u64], n: u32, m: u32) -> bool
     }
 }
 
-// ---- at the start of a query
+// ---- at the start of a query. `clear` takes any workspace of the right lengths; every other operation takes one that
+// is tidy and leaves it so, and then the state that it leaves is all that there is to say (`leaves-unique`).
 
 // Every search begins with a new workspace, whatever was in it: no label, no mark, no parent.
 pub fn clear(words: &mut [u32], marks: &mut [u64], n: u32, m: u32, d: Direction)

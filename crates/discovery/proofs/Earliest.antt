@@ -1,19 +1,22 @@
 -- The first trip in list order is the one at the first place whose test passes.
 use Prim.Native.Nat.{ℕ, zero, suc, _+_, _≤_, _<_}
-use mathlib.Core.Path.{_≡_, refl, sym, ap, _∙_}
+use mathlib.Core.Path.{_≡_, refl, sym}
 use mathlib.Core.Bool.{true, false}
 use mathlib.Core.Option.{none, some}
 use native.Mathlib.Omega.{arith}
 use native.Mathlib.Decide.{decLt}
-use borrow.Author.Tests.{lt-ltb, le-ltb}
+use borrow.Author.Tests.{lt-ltb, le-ltb, ltb-true, ltb-false}
+use lib.Dec.{ltb}
+use Rattle.base.specs.Choice.{split}
 use Rattle.base.specs.First.{first}
 use Rattle.model.specs.declared.Direction.the-variants.{Departure}
 use Rattle.model.specs.Lists.{upto}
 use Rattle.model.specs.Tables.{Net}
 use Rattle.model.specs.Rides.{firstTrip, catch}
 use Rattle.discovery.specs.declared.Trip.the-variants.{At, Nothing}
-use Rattle.discovery.specs.Trips.{tripIn, notBefore, firstNotBefore, placeOf}
+use Rattle.discovery.specs.Trips.{notBefore, firstNotBefore, placeOf}
 use Rattle.discovery.proofs.Firsts.{first-fails, first-passes}
+use Rattle.discovery.proofs.Within.{tripIn, InRoute, at-in, none-in}
 
 module _ (n : Net) (r p x : ℕ) where
   first-some : (k i m : ℕ) → i ≤ m → m < i + k → ((j : ℕ) → i ≤ j → j < m → notBefore n r p x j ≡ false)
@@ -43,16 +46,23 @@ module _ (n : Net) (r p x : ℕ) where
     unfolding placeOf
     earliest-past l = rw (← e, ← f, le-ltb i m l)
 
-    pub earliest-some : i < m → tripIn n r (At i) ≡ catch Departure n r p x
-    unfolding firstNotBefore tripIn catch
-    earliest-some l =
-        let t = notBefore n r p x in
-        let at = first-some (n .trips r) 0 (first t (n .trips r) 0) (omega arith) (omega arith)
-        (first-fails t (n .trips r) 0) (first-passes t (n .trips r) 0 (omega arith)) in
-        ap (λ (j : ℕ). some (n .tripAt r j)) e ∙ sym at
+  -- the trip at that place is the model's
+  pub earliest-trip : tripIn n r (placeOf Departure n r p x) ≡ catch Departure n r p x
+  unfolding placeOf firstNotBefore tripIn catch
+  earliest-trip =
+      let t = notBefore n r p x in
+      let i = first t (n .trips r) 0 in
+      split (ltb i (n .trips r))
+      (λ e.
+      let l = ltb-true i (n .trips r) e in
+      rw e
+      (sym (first-some (n .trips r) 0 i (omega arith) (omega arith) (first-fails t (n .trips r) 0) (first-passes t (n .trips r) 0 (omega arith)))))
+      (λ e.
+      let l = ltb-false i (n .trips r) e in
+      rw e (sym (first-none (n .trips r) 0 (λ j h g. first-fails t (n .trips r) 0 j h (omega arith)))))
 
-    pub earliest-none : m ≤ i → tripIn n r Nothing ≡ catch Departure n r p x
-    unfolding firstNotBefore tripIn catch
-    earliest-none l =
-        let t = notBefore n r p x in
-        sym (first-none (n .trips r) 0 (λ j h g. first-fails t (n .trips r) 0 j h (omega arith)))
+  pub earliest-in : InRoute n r (placeOf Departure n r p x)
+  unfolding placeOf
+  earliest-in =
+      let i = firstNotBefore n r p x in
+      split (ltb i (n .trips r)) (λ e. rw e (at-in n r i (ltb-true i (n .trips r) e))) (λ e. rw e (none-in n r))

@@ -17,9 +17,10 @@ use Rattle.model.specs.Tables.{Net}
 use Rattle.model.specs.Rides.{lastTrip, catch}
 use Rattle.repository.specs.Accepted.{Ordered}
 use Rattle.discovery.specs.declared.Trip.the-variants.{At, Nothing}
-use Rattle.discovery.specs.Trips.{tripIn, notBefore, firstNotBefore, before, placeOf}
+use Rattle.discovery.specs.Trips.{notBefore, firstNotBefore, before, placeOf}
 use Rattle.discovery.proofs.Firsts.{first-fails, first-passes, first-most}
 use Rattle.discovery.proofs.Tests.{not-before-rising}
+use Rattle.discovery.proofs.Within.{tripIn, InRoute, at-in, none-in}
 
 module _ (n : Net) (r p x : ℕ) where
   -- the trip at place i arrives after x
@@ -71,6 +72,10 @@ module _ (n : Net) (r p x : ℕ) where
       split (after j) (λ f. f)
       (λ f. let z : true ≡ false = sym e ∙ up .rising i j l g f in let y : _≡_ {A = ℕ} 0 1 = cc in absurd (omega arith))
 
+  most : firstNotBefore n r p (x + 1) ≤ n .trips r
+  unfolding firstNotBefore
+  most = omega (arith, first-most after (n .trips r) 0)
+
   module _ (o : Ordered n) (hr : r < n .routes) (hp : p < n .positions r) {i : ℕ} (e : i ≡ firstNotBefore n r p (x + 1)) where
     -- from the first place whose test passes on, all pass
     passes : (j : ℕ) → i ≤ j → j < n .trips r → after j ≡ true
@@ -83,35 +88,39 @@ module _ (n : Net) (r p x : ℕ) where
     unfolding firstNotBefore
     fails j l = first-fails after (n .trips r) 0 j (omega arith) (omega arith)
 
-    pub latest-none : i ≡ 0 → tripIn n r Nothing ≡ catch Arrival n r p x
-    unfolding tripIn catch
-    latest-none z = sym (last-same (n .trips r) 0 none (λ j h g. passes j (omega arith) (omega arith)))
+    latest-one : tripIn n r (before i) ≡ catch Arrival n r p x
+    unfolding tripIn catch before
+    latest-one = go i refl
+      where
+        go : (k : ℕ) → i ≡ k → tripIn n r (before k) ≡ catch Arrival n r p x
+        go zero z = sym (last-same (n .trips r) 0 none (λ j h g. passes j (omega arith) (omega arith)))
+        go (suc k) z =
+            sym (last-some (n .trips r) 0 k none (omega arith) (omega (arith, most, e)) (λ j h c. fails j (omega arith))
+            (λ j h c. passes j (omega arith) (omega arith)))
 
-    pub latest-in : (i ≡ 0 → ⊥) → i - 1 < n .trips r
-    unfolding firstNotBefore
-    latest-in z = omega (arith, first-most after (n .trips r) 0)
-
-    pub latest-some : (i ≡ 0 → ⊥) → tripIn n r (At (i - 1)) ≡ catch Arrival n r p x
-    unfolding tripIn catch
-    latest-some z =
-        sym (last-some (n .trips r) 0 (i - 1) none (omega arith) (omega (arith, latest-in z))
-        (λ j h c. fails j (omega arith)) (λ j h c. passes j (omega arith) (omega arith)))
-
--- ---- the place
-before-none : (i : ℕ) → i ≡ 0 → Nothing ≡ before i
-unfolding before
-before-none i z = rw z
-
-before-one : (i : ℕ) → (i ≡ 0 → ⊥) → At (i - 1) ≡ before i
-unfolding before
-before-one zero z = absurd (z refl)
-before-one (suc i) z = let less : suc i - 1 ≡ i = omega arith in rw less
-
-module _ (n : Net) (r p x : ℕ) {i : ℕ} (e : i ≡ firstNotBefore n r p (x + 1)) where
-  pub latest-past : i ≡ 0 → Nothing ≡ placeOf Arrival n r p x
+  -- the trip at the place is the model's
+  pub latest-trip : Ordered n → r < n .routes → p < n .positions r → tripIn n r (placeOf Arrival n r p x) ≡ catch Arrival n r p x
   unfolding placeOf
-  latest-past z = rw (← e) (before-none i z)
+  latest-trip o hr hp = latest-one o hr hp refl
 
-  pub latest-at : (i ≡ 0 → ⊥) → At (i - 1) ≡ placeOf Arrival n r p x
-  unfolding placeOf
-  latest-at z = rw (← e) (before-one i z)
+  pub latest-in : InRoute n r (placeOf Arrival n r p x)
+  unfolding placeOf before
+  latest-in = go (firstNotBefore n r p (x + 1)) refl
+    where
+      go : (k : ℕ) → firstNotBefore n r p (x + 1) ≡ k → InRoute n r (before k)
+      go zero z = none-in n r
+      go (suc k) z = at-in n r k (omega (arith, most))
+
+  -- the place as it is found
+  module _ {i : ℕ} (e : i ≡ firstNotBefore n r p (x + 1)) where
+    pub latest-past : i ≡ 0 → Nothing ≡ placeOf Arrival n r p x
+    unfolding placeOf before
+    latest-past z = rw (← e, z)
+
+    pub latest-at : (i ≡ 0 → ⊥) → At (i - 1) ≡ placeOf Arrival n r p x
+    unfolding placeOf before
+    latest-at z = rw (← e) (go i z)
+      where
+        go : (k : ℕ) → (k ≡ 0 → ⊥) → At (k - 1) ≡ before k
+        go zero z = absurd (z refl)
+        go (suc k) z = let less : suc k - 1 ≡ k = omega arith in rw less

@@ -1,4 +1,4 @@
--- Steps around a place: each narrows the bracket in which the first trip in time stands. And the places that are found.
+-- Steps around a place: each narrows the bracket in which the first trip in time stands.
 use Prim.Native.Nat.{ℕ, _+_, _-_, _≤_, _<_}
 use mathlib.Core.Path.{_≡_, refl, sym, ap, _∙_, subst}
 use mathlib.Core.Bool.{Bool, true, false, false≢true}
@@ -11,9 +11,7 @@ use Rattle.repository.specs.Laid.{Laid}
 use Rattle.repository.specs.NetOf.{netOf}
 use Rattle.repository.specs.Rows.{Stands}
 use Rattle.repository.proofs.Trips.{place-of-trip, stands}
-use Rattle.discovery.specs.declared.Trip.{Trip}
-use Rattle.discovery.specs.declared.Trip.the-variants.{At, Nothing}
-use Rattle.discovery.specs.Trips.{InRoute, Along, notBefore, firstNotBefore}
+use Rattle.discovery.specs.Trips.{Along, notBefore, firstNotBefore}
 use Rattle.discovery.proofs.Tests.{not-before-rising}
 
 -- what the tables say along a route
@@ -92,14 +90,3 @@ module _ (w : List ℕ) (r p x : ℕ) where
 
   pub in-up : {lo hi : ℕ} → Around lo hi → (lo ≡ hi → ⊥) → lo < n .trips r
   in-up h z = omega (arith, h .lo-hi, h .hi-n)
-
--- what is found is a place of the route
-module _ (n : Net) (r : ℕ) where
-  pub at-in : (i : ℕ) → i < n .trips r → InRoute n r (At i)
-  at-in i h = record { within = λ j e. let same : i ≡ j = cc in rw (← same) h }
-
-  pub counted-in : (i : ℕ) {m : ℕ} → m ≡ n .trips r → i < m → InRoute n r (At i)
-  counted-in i f h = at-in i (rw f at h)
-
-  pub none-in : InRoute n r Nothing
-  none-in = record { within = λ j e. let y : _≡_ {A = ℕ} 0 1 = cc in absurd (omega arith) }

@@ -1,8 +1,6 @@
--- Which trip of a route a label can take, and where it stands in the route's order.
+-- Where the trip that a label takes stands in its route's order. It is the trip that the model catches: `place-trip` of proofs/Caught.antt.
 use Prim.Native.Nat.{ℕ, zero, suc, _+_, _<_}
-use mathlib.Core.Path.{_≡_}
 use mathlib.Core.Bool.{Bool, cond}
-use mathlib.Core.Option.{Option, none, some}
 use mathlib.Core.List.{List}
 use lib.Dec.{ltb, leb}
 use Rattle.base.specs.First.{first}
@@ -13,15 +11,6 @@ use Rattle.repository.specs.Accepted.{Accepted}
 use Rattle.repository.specs.NetOf.{netOf}
 use Rattle.discovery.specs.declared.Trip.{Trip}
 use Rattle.discovery.specs.declared.Trip.the-variants.{At, Nothing}
-
--- the trip that stands at a place
-unfoldable pub tripIn : Net → ℕ → Trip → Option ℕ
-tripIn n r (At i) = some (n .tripAt r i)
-tripIn n r Nothing = none
-
--- a place is one of the route's
-pub record InRoute (n : Net) (r : ℕ) (t : Trip) : Type 0 where
-  pub within : (i : ℕ) → t ≡ At i → i < n .trips r
 
 -- a position of a route of accepted tables; their many facts stand behind a function, so that only who asks for them has them
 pub record Along (w : List ℕ) (r p : ℕ) : Type 0 where

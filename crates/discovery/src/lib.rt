@@ -6,13 +6,12 @@ ghost use Rattle.base.specs.Halving.{Bracket};
 ghost use Prim.Native.Nat.{ℕ, _<_};
 ghost use Rattle.model.specs.Lists.{upto};
 ghost use Rattle.model.specs.declared.Direction.the-variants.{Departure, Arrival};
-ghost use Rattle.model.specs.Rides.{catch};
 ghost use Rattle.model.specs.Choosing.{firstOf};
 ghost use Rattle.repository.specs.Laid.{Laid};
 ghost use Rattle.repository.specs.Accepted.{Accepted};
 ghost use Rattle.repository.specs.NetOf.{transferRow, walkRow, netOf};
 ghost use Rattle.repository.specs.Rows.{calls, transfers, walks, rowCount, OfStop, callRoute, callFirst, Stands};
-ghost use Rattle.discovery.specs.Trips.{tripIn, InRoute, Along, notBefore, firstNotBefore, placeOf};
+ghost use Rattle.discovery.specs.Trips.{Along, notBefore, firstNotBefore, placeOf};
 use shared::Duration;
 use shared::Time;
 
@@ -157,8 +156,6 @@ pub fn find_earliest_trip(tables: &[u32], r: u32, p: u32, label: Time, near: u32
     requires { ⌜ p < netOf (now tables) .positions r ⌝ }
     requires { ⌜ 0 < label .0 ⌝ }
     ensures { λ t. ⌜ t ≡ placeOf Departure (netOf (now (tables .entry))) r p (label .0) ⌝ }
-    ensures { λ t. ⌜ tripIn (netOf (now (tables .entry))) r t ≡ catch Departure (netOf (now (tables .entry))) r p (label .0) ⌝ }
-    ensures { λ t. ⌜ InRoute (netOf (now (tables .entry))) r t ⌝ }
 {
     let i = first_near(tables, r, p, label.0 as usize, near as usize);
     if i < repository::routes::trips_of_route(tables, r) {
@@ -175,8 +172,6 @@ pub fn find_latest_trip(tables: &[u32], r: u32, p: u32, label: Time, near: u32) 
     requires { ⌜ p < netOf (now tables) .positions r ⌝ }
     requires { ⌜ 0 < label .0 ⌝ }
     ensures { λ t. ⌜ t ≡ placeOf Arrival (netOf (now (tables .entry))) r p (label .0) ⌝ }
-    ensures { λ t. ⌜ tripIn (netOf (now (tables .entry))) r t ≡ catch Arrival (netOf (now (tables .entry))) r p (label .0) ⌝ }
-    ensures { λ t. ⌜ InRoute (netOf (now (tables .entry))) r t ⌝ }
 {
     let i = first_near(tables, r, p, label.0 as usize + 1, near as usize + 1);
     if i == 0 {

@@ -20,64 +20,75 @@ use Rattle.repository.specs.Rows.{TripOf, timeRow, tripCount}
 use Rattle.repository.proofs.Trips.{trip-known}
 use Rattle.discovery.specs.declared.Trip.{Trip}
 use Rattle.discovery.specs.declared.Trip.the-variants.{At, Nothing}
-use Rattle.discovery.specs.Trips.{tripIn, InRoute, placeOf}
+use Rattle.discovery.specs.Trips.{placeOf}
+use Rattle.discovery.proofs.Within.{tripIn, InRoute}
+use Rattle.discovery.proofs.Caught.{place-trip, place-in}
 use Rattle.explorer_rides.specs.declared.Ride.{Ride}
 use Rattle.explorer_rides.specs.Riding.{aboard, Seated, caught, OnRoute, boardAt}
 use Rattle.explorer_rides.proofs.Seats.{aboard-on}
 
 -- ---- the lookup
-module _ {d : Direction} (w : List ℕ) (r p x : ℕ) (t : Trip) where
+module _ {d : Direction} (w : List ℕ) (r p x : ℕ) {t : Trip} where
   pub place-departure : d ≡ Departure → t ≡ placeOf Departure (netOf w) r p x → t ≡ placeOf d (netOf w) r p x
   place-departure e f = f ∙ rw e
 
   pub place-arrival : d ≡ Arrival → t ≡ placeOf Arrival (netOf w) r p x → t ≡ placeOf d (netOf w) r p x
   place-arrival e f = f ∙ rw e
 
-  pub find-departure : d ≡ Departure → tripIn (netOf w) r t ≡ catch Departure (netOf w) r p x → tripIn (netOf w) r t ≡ catch d (netOf w) r p x
-  find-departure e f = f ∙ rw e
+-- a trip of the route, at place i of its order
+module _ (w : List ℕ) (r : ℕ) {i v : ℕ} (l : i < netOf w .trips r) (g : v ≡ netOf w .tripAt r i) where
+  listed : TripOf (netOf w) r v
+  listed = record { place = i; within = l; trip = g }
 
-  pub find-arrival : d ≡ Arrival → tripIn (netOf w) r t ≡ catch Arrival (netOf w) r p x → tripIn (netOf w) r t ≡ catch d (netOf w) r p x
-  find-arrival e f = f ∙ rw e
+  listed-known : {p : ℕ} → OnRoute w r p → v < tripCount w
+  listed-known h = trip-known (h .accepted) (h .route) listed
 
-module _ (d : Direction) (w : List ℕ) (r p x : ℕ) (a : Ride) {t : Trip} (e : t ≡ placeOf d (netOf w) r p x) where
-  pub caught-is : {i v row : ℕ} → t ≡ At i → v ≡ netOf w .tripAt r i → row ≡ timeRow w v
-      → record { trip = v; since = p; row = row; place = i } ≡ caught w r p a (placeOf d (netOf w) r p x)
+-- ---- the ride that the code makes of what was found
+module _ (d : Direction) (w : List ℕ) (r p x : ℕ) {t : Trip} (e : t ≡ placeOf d (netOf w) r p x) where
+  module _ {i : ℕ} (f : t ≡ At i) where
+    pub caught-in : i < netOf w .trips r
+    caught-in = (place-in w r p x d) .within i (sym e ∙ f)
+
+    module _ {v : ℕ} (g : v ≡ netOf w .tripAt r i) where
+      pub caught-known : OnRoute w r p → v < tripCount w
+      caught-known = listed-known w r caught-in g
+
+      pub caught-is : (a : Ride) {row : ℕ} → row ≡ timeRow w v
+          → record { trip = v; since = p; row = row; place = i } ≡ caught w r p a (placeOf d (netOf w) r p x)
+      unfolding caught
+      caught-is a k = rw (← e, f, ← g, ← k)
+
+  pub caught-not : (a : Ride) → t ≡ Nothing → a ≡ caught w r p a (placeOf d (netOf w) r p x)
   unfolding caught
-  caught-is f g k = rw (← e, f, ← g, ← k)
+  caught-not a f = rw (← e, f)
 
-  pub caught-not : t ≡ Nothing → a ≡ caught w r p a (placeOf d (netOf w) r p x)
+-- ---- that ride is the model's, and the route has it
+module _ (w : List ℕ) (r p : ℕ) (a : Ride) (h : OnRoute w r p) where
+  trip-aboard : (o : Option ℕ) (t : Trip) → InRoute (netOf w) r t → tripIn (netOf w) r t ≡ o
+      → aboard (caught w r p a t) ≡ boarded p (aboard a) o
+  unfolding caught tripCount tripIn boarded
+  trip-aboard o (At i) z e =
+      let v = netOf w .tripAt r i in
+      let real : v ≡ MAX → ⊥ = λ m. omega (arith, listed-known w r (z .within i refl) refl h, h .accepted .laid .trips-limit) in
+      aboard-on (record { trip = v; since = p; row = timeRow w v; place = i }) real ∙ rw (← e)
+  trip-aboard o Nothing z e = rw (← e)
+
+  trip-seated : (t : Trip) → InRoute (netOf w) r t → Seated w r a → Seated w r (caught w r p a t)
   unfolding caught
-  caught-not f = rw (← e, f)
+  trip-seated (At i) z s = record {
+    seat = λ real. record { trip = listed w r (z .within i refl) refl; since = h .position; times = refl };
+  }
+  trip-seated Nothing z s = s
 
-module _ (w : List ℕ) (r p : ℕ) {t : Trip} (z : InRoute (netOf w) r t) {i : ℕ} (f : t ≡ At i) where
-  pub caught-in : i < netOf w .trips r
-  caught-in = z .within i f
+  module _ (d : Direction) (x : ℕ) {b : Ride} (e : b ≡ caught w r p a (placeOf d (netOf w) r p x)) where
+    pub caught-aboard : aboard b ≡ boarded p (aboard a) (catch d (netOf w) r p x)
+    caught-aboard =
+        ap aboard e
+        ∙ trip-aboard (catch d (netOf w) r p x) (placeOf d (netOf w) r p x) (place-in w r p x d)
+        (place-trip w r p x d (h .accepted) (h .route) (h .position))
 
-  module _ {v : ℕ} (g : v ≡ netOf w .tripAt r i) where
-    caught-trip : TripOf (netOf w) r v
-    caught-trip = record { place = i; within = caught-in; trip = g }
-
-    pub caught-known : OnRoute w r p → v < tripCount w
-    caught-known h = trip-known (h .accepted) (h .route) caught-trip
-
-    pub caught-seat : OnRoute w r p → {row : ℕ} → row ≡ timeRow w v
-        → Seated w r (record { trip = v; since = p; row = row; place = i })
-    caught-seat h k = record { seat = λ real. record { trip = caught-trip; since = h .position; times = k } }
-
-    -- the trip that is caught is the one aboard
-    pub caught-one : (d : Direction) (x : ℕ) (a : Aboard) (row : ℕ) → tripIn (netOf w) r t ≡ catch d (netOf w) r p x → OnRoute w r p
-        → aboard (record { trip = v; since = p; row = row; place = i }) ≡ boarded p a (catch d (netOf w) r p x)
-    unfolding tripCount tripIn boarded
-    caught-one d x a row e h =
-        let real : v ≡ MAX → ⊥ = λ m. omega (arith, caught-known h, h .accepted .laid .trips-limit) in
-        let is : catch d (netOf w) r p x ≡ some (netOf w .tripAt r i) = sym e ∙ rw f in
-        aboard-on (record { trip = v; since = p; row = row; place = i }) real ∙ ap (λ (u : ℕ). On u p) g ∙ rw is
-
--- where none is caught, the ride goes on
-pub caught-none : (d : Direction) (w : List ℕ) (r p x : ℕ) (a : Aboard) {t : Trip} → tripIn (netOf w) r t ≡ catch d (netOf w) r p x
-    → t ≡ Nothing → a ≡ boarded p a (catch d (netOf w) r p x)
-unfolding tripIn boarded
-caught-none d w r p x a e f = let is : catch d (netOf w) r p x ≡ none = sym e ∙ rw f in rw is
+    pub caught-seated : Seated w r a → Seated w r b
+    caught-seated s = rw e (trip-seated (placeOf d (netOf w) r p x) (place-in w r p x d) s)
 
 -- ---- an absent label
 module _ {n : Net} (z : Timed n) (r p : ℕ) (hr : r < n .routes) (hp : p < n .positions r) where

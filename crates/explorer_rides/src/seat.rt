@@ -6,13 +6,13 @@ ghost use lib.ListN.{getD};
 ghost use Rattle.model.specs.declared.LegType.the-variants.{Transit};
 ghost use Rattle.model.specs.Legs.{legOf};
 ghost use Rattle.model.specs.Moments.{better, ahead};
-ghost use Rattle.model.specs.Rides.{leave, catch, boarded};
+ghost use Rattle.model.specs.Rides.{leave};
 ghost use Rattle.repository.specs.NetOf.{netOf};
-ghost use Rattle.discovery.specs.Trips.{tripIn, InRoute, placeOf};
+ghost use Rattle.discovery.specs.Trips.{placeOf};
 ghost use Rattle.allocator.specs.Layout.{Words, Sized, bestOf, view};
 ghost use Rattle.allocator.specs.Operations.{applied};
 ghost use Rattle.allocator.specs.Tidy.{Tidy};
-ghost use Rattle.explorer_rides.specs.Riding.{aboard, Seat, Seated, caught, rideLeg, OnRoute, Riding};
+ghost use Rattle.explorer_rides.specs.Riding.{Seat, caught, rideLeg, OnRoute, Riding};
 use super::Ride;
 use discovery::Trip;
 use model::Direction;
@@ -26,8 +26,6 @@ fn find_trip(tables: &[u32], d: Direction, r: u32, p: u32, label: Time, near: u3
     requires { ⌜ OnRoute (now tables) r p ⌝ }
     requires { ⌜ 0 < label .0 ⌝ }
     ensures { λ t. ⌜ t ≡ placeOf d (netOf (now (tables .entry))) r p (label .0) ⌝ }
-    ensures { λ t. ⌜ tripIn (netOf (now (tables .entry))) r t ≡ catch d (netOf (now (tables .entry))) r p (label .0) ⌝ }
-    ensures { λ t. ⌜ InRoute (netOf (now (tables .entry))) r t ⌝ }
 {
     match d {
         Direction::Departure => discovery::find_earliest_trip(tables, r, p, label, near),
@@ -38,11 +36,8 @@ fn find_trip(tables: &[u32], d: Direction, r: u32, p: u32, label: Time, near: u3
 // Boards that trip at position p. Where there is none, the ride goes on.
 pub fn catch_trip(tables: &[u32], d: Direction, r: u32, p: u32, label: Time, ride: Ride) -> Ride
     requires { ⌜ OnRoute (now tables) r p ⌝ }
-    requires { ⌜ Seated (now tables) r ride ⌝ }
     requires { ⌜ 0 < label .0 ⌝ }
     ensures { λ e. ⌜ e ≡ caught (now (tables .entry)) r p ride (placeOf d (netOf (now (tables .entry))) r p (label .0)) ⌝ }
-    ensures { λ e. ⌜ aboard e ≡ boarded p (aboard ride) (catch d (netOf (now (tables .entry))) r p (label .0)) ⌝ }
-    ensures { λ e. ⌜ Seated (now (tables .entry)) r e ⌝ }
 {
     let found = find_trip(tables, d, r, p, label, ride.place);
     match found {

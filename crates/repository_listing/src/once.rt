@@ -7,7 +7,7 @@ ghost use Rattle.repository_listing.specs.Fitting.{Fitting, Unmarked, Ma
 use repository_calls::words::item;
 
 // Whether no two of the words a, .., b - 1 of section k are the same. If so, these are marked, and nothing else; if not, those before the first
-// that stands twice.
+// that repeats another.
 pub fn marked_once(tables: &[u32], k: usize, a: u32, b: u32, marks: &mut [u64]) -> bool
     requires { ⌜ Laid (now tables) ⌝ }
     requires { ⌜ Fitting (now tables) k a b (length (now marks)) ⌝ }

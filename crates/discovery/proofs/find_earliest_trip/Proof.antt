@@ -1,7 +1,7 @@
 -- `find_earliest_trip`: the place that was found, where it is one of the route.
 use borrow.Author.Needs.{needs}
-use Rattle.discovery.proofs.Earliest.{earliest-at, earliest-past, earliest-some, earliest-none}
-use Rattle.discovery.proofs.Near.{along, counted-in, none-in}
+use Rattle.discovery.proofs.Earliest.{earliest-at, earliest-past}
+use Rattle.discovery.proofs.Near.{along}
 use Rattle.discovery.proofs.find_earliest_trip.Statement.{statement}
 use Rattle.discovery.proofs.find_earliest_trip.Tie as tie
 
@@ -15,10 +15,10 @@ trips-of-route-requires : tie.Need-trips-of-route-requires
 trips-of-route-requires c κs = search needs
 
 returns : tie.Need-returns
-returns c = (search (needs, earliest-at), (search (needs, earliest-some), search (needs, counted-in)))
+returns c = search (needs, earliest-at)
 
 returns-2 : tie.Need-returns-2
-returns-2 c = (search (needs, earliest-past), (search (needs, earliest-none), search (needs, none-in)))
+returns-2 c = search (needs, earliest-past)
 
 pub find-earliest-trip-spec : {M : Type 1} → statement M
 find-earliest-trip-spec =

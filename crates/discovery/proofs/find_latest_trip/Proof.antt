@@ -1,7 +1,7 @@
 -- `find_latest_trip`: the place before the one that was found.
 use borrow.Author.Needs.{needs}
-use Rattle.discovery.proofs.Latest.{latest-past, latest-at, latest-none, latest-in, latest-some}
-use Rattle.discovery.proofs.Near.{along, at-in, none-in}
+use Rattle.discovery.proofs.Latest.{latest-past, latest-at}
+use Rattle.discovery.proofs.Near.{along}
 use Rattle.discovery.proofs.find_latest_trip.Statement.{statement}
 use Rattle.discovery.proofs.find_latest_trip.Tie as tie
 
@@ -18,13 +18,13 @@ first-near-requires : tie.Need-first-near-requires
 first-near-requires c κs = search (needs, along)
 
 returns : tie.Need-returns
-returns c = (search (needs, latest-past), (search (needs, latest-none), search (needs, none-in)))
+returns c = search (needs, latest-past)
 
 sub-t12 : tie.Need-sub-t12
 sub-t12 c = search needs
 
 returns-2 : tie.Need-returns-2
-returns-2 c = (search (needs, latest-at), (search (needs, latest-some), search (needs, at-in, latest-in)))
+returns-2 c = search (needs, latest-at)
 
 pub find-latest-trip-spec : {M : Type 1} → statement M
 find-latest-trip-spec =

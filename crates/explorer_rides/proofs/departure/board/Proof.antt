@@ -1,6 +1,6 @@
 -- `board`: the ride that goes on, departure.
 use borrow.Author.Needs.{needs}
-use Rattle.explorer_rides.proofs.Catching.{board-absent}
+use Rattle.explorer_rides.proofs.Catching.{caught-aboard, caught-seated, board-absent}
 use Rattle.explorer_rides.proofs.Boarding.{board-stay, board-on}
 use Rattle.explorer_rides.proofs.departure.board.Statement.{statement}
 use Rattle.explorer_rides.proofs.departure.board.Tie as tie
@@ -12,10 +12,10 @@ allows-requires : tie.Need-allows-requires
 allows-requires c κs = search needs
 
 catch-trip-requires : tie.Need-catch-trip-requires
-catch-trip-requires c κs = (search needs, (search needs, search needs))
+catch-trip-requires c κs = (search needs, search needs)
 
 returns-2 : tie.Need-returns-2
-returns-2 c = (search (needs, board-on), search needs)
+returns-2 c = (search (needs, board-on, caught-aboard), search (needs, caught-seated))
 
 returns-3 : tie.Need-returns-3
 returns-3 c = (search (needs, board-stay), search needs)

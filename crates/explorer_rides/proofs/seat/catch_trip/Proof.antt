@@ -1,6 +1,6 @@
 -- `catch_trip`: boarding the trip that was found.
 use borrow.Author.Needs.{needs}
-use Rattle.explorer_rides.proofs.Catching.{caught-is, caught-not, caught-in, caught-known, caught-seat, caught-one, caught-none}
+use Rattle.explorer_rides.proofs.Catching.{caught-in, caught-known, caught-is, caught-not}
 use Rattle.explorer_rides.proofs.seat.catch_trip.Statement.{statement}
 use Rattle.explorer_rides.proofs.seat.catch_trip.Tie as tie
 
@@ -17,13 +17,13 @@ time-row-requires : tie.Need-time-row-requires
 time-row-requires c κs = search (needs, caught-known)
 
 returns : tie.Need-returns
-returns c = (search (needs, caught-is), (search (needs, caught-one), search (needs, caught-seat)))
+returns c = search (needs, caught-is)
 
 enum-told : tie.Need-enum-told
 enum-told c = search needs
 
 returns-2 : tie.Need-returns-2
-returns-2 c = (search (needs, caught-not), (search (needs, caught-none), search needs))
+returns-2 c = search (needs, caught-not)
 
 pub catch-trip-spec : {M : Type 1} → statement M
 catch-trip-spec =

@@ -1,6 +1,6 @@
 -- `find_trip`: the trip that the model catches, in either direction.
 use borrow.Author.Needs.{needs}
-use Rattle.explorer_rides.proofs.Catching.{place-departure, place-arrival, find-departure, find-arrival}
+use Rattle.explorer_rides.proofs.Catching.{place-departure, place-arrival}
 use Rattle.explorer_rides.proofs.seat.find_trip.Statement.{statement}
 use Rattle.explorer_rides.proofs.seat.find_trip.Tie as tie
 
@@ -17,10 +17,10 @@ find-latest-trip-requires : tie.Need-find-latest-trip-requires
 find-latest-trip-requires c κs = search needs
 
 returns : tie.Need-returns
-returns c = (search (needs, place-departure), (search (needs, find-departure), search needs))
+returns c = search (needs, place-departure)
 
 returns-2 : tie.Need-returns-2
-returns-2 c = (search (needs, place-arrival), (search (needs, find-arrival), search needs))
+returns-2 c = search (needs, place-arrival)
 
 pub find-trip-spec : {M : Type 1} → statement M
 find-trip-spec =
