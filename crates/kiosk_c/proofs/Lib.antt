@@ -2,3 +2,5 @@
 pub mod Told
 pub mod Rooms
 pub mod Reading
+pub mod Unique
+pub mod ReadBack

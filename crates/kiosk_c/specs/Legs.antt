@@ -1,8 +1,9 @@
--- Journey bytes through the C face: "13 journey bytes: unknown kind or cut body", with "only the offset of the bad leg's first byte"; and a leg
--- in six words.
-use Prim.Native.Nat.{ℕ}
+-- Journey bytes through the C face: "13 journey bytes: unknown kind or cut body", with "only the offset of the bad leg's first byte"; a leg
+-- in six words; and the legs that a caller walks.
+use Prim.Native.Nat.{ℕ, _+_, _≤_}
+use mathlib.Core.Path.{_≡_}
 use mathlib.Core.Bool.{cond}
-use mathlib.Core.List.{List, _∷_}
+use mathlib.Core.List.{List, [], _∷_}
 use lib.Dec.{leb}
 use lib.ListN.{length, drop}
 use Rattle.model.specs.declared.Leg.{Leg}
@@ -12,6 +13,7 @@ use Rattle.journey.specs.declared.LegRead.{LegRead}
 use Rattle.journey.specs.declared.LegRead.the-variants.{Whole, Bad as NoLeg, End}
 use Rattle.journey.specs.declared.Reading.{Reading}
 use Rattle.journey.specs.declared.Reading.the-variants.{Legs, Bad}
+use Rattle.journey.specs.Reading.{legFrom}
 
 -- what is read, in one word: 0 and how many legs, 13 and the offset; 6 where there is no word
 unfoldable pub readWord : Reading → ℕ
@@ -44,3 +46,14 @@ legNumber x leg = cond (leb 6 (length leg)) (legBytes x) 6
 
 unfoldable pub legLeft : LegRead → List ℕ → List ℕ
 legLeft x leg = cond (leb 6 (length leg)) (legWords x leg) leg
+
+-- a call of `kiosk_leg` at an offset, with any six words or more, answers r and leaves the words so
+abbrev pub LegCall : List ℕ → ℕ → ℕ → (List ℕ → List ℕ) → Type 0
+LegCall b at r left = (leg : List ℕ) → 6 ≤ length leg → (legNumber (legFrom b at) leg ≡ r) × (legLeft (legFrom b at) leg ≡ left leg)
+
+-- a walk by `kiosk_leg`, from offset `at` on and each time on by what it answers: of each leg of gs its size and its six words; then 0,
+-- with nothing written
+pub data FaceLegsFrom (b : List ℕ) : ℕ → List Leg → Type 0 where
+  over : {at : ℕ} → LegCall b at 0 (λ leg. leg) → FaceLegsFrom b at []
+  next : {at : ℕ} {gs : List Leg} (g : Leg) → LegCall b at (legSize (g .kind)) (legIn g) → FaceLegsFrom b (at + legSize (g .kind)) gs
+      → FaceLegsFrom b at (g ∷ gs)
