@@ -1,18 +1,19 @@
 //! What comes of a query.
-use crate::{ffi::AnswerWords, journey::Journey, numbers::words_of};
+use crate::{ffi::AnswerWords, journey::Journey, names::*, numbers::words_of};
 use std::{error::Error, fmt};
 
 /// Why a query was not searched. Nothing that was lent has changed.
 #[derive(Clone, Copy, Debug, PartialEq, Eq, Hash)]
+#[repr(u32)]
 pub enum Refusal {
     /// 6: the workspace is one for tables of another size.
-    Workspace = 6,
+    Workspace = BAD_WORKSPACE,
     /// 7: there is no such stop or area.
-    Place = 7,
+    Place = BAD_PLACE,
     /// 8: the moment is not one of 1 to 1,000,000.
-    Moment = 8,
+    Moment = BAD_MOMENT,
     /// 9: an area has no served stop.
-    Area = 9,
+    Area = BAD_AREA,
 }
 
 impl Refusal {
@@ -35,7 +36,7 @@ impl Error for Refusal {}
 pub enum Answer<'b> {
     /// 0: a journey was found.
     Found {
-        /// The moment of arrival; for a query with [`When::ArriveBy`](crate::When::ArriveBy) that of the first departure.
+        /// The moment of arrival; for a query with [`When::Arrival`](crate::When::Arrival) that of the first departure.
         time: u32,
         /// The stop where that is.
         stop: u32,
@@ -47,9 +48,9 @@ pub enum Answer<'b> {
     /// 6 to 9: the query was not searched.
     Refused(Refusal),
     /// 10: there is no journey.
-    NoRoute,
+    NoRouteFound,
     /// 11: a stop was chosen, but has no leg. Proved never to come.
-    NoLeg,
+    FailedToBuildRoute,
     /// 12: the journey does not fit into the buffer, which is as it was.
     TooLong {
         /// How many bytes it takes.
@@ -63,18 +64,18 @@ impl<'b> Answer<'b> {
         let AnswerWords { number, time, stop, round, length } = words;
         let length = length as usize;
         match number {
-            0 => {
+            FOUND => {
                 // the search writes whole legs; reading them costs little beside it, and then no other journey can be had
                 let journey = Journey::read(&buffer[..length]).expect("the search writes legs");
                 Answer::Found { time, stop, round, journey }
             }
-            6 => Answer::Refused(Refusal::Workspace),
-            7 => Answer::Refused(Refusal::Place),
-            8 => Answer::Refused(Refusal::Moment),
-            9 => Answer::Refused(Refusal::Area),
-            10 => Answer::NoRoute,
-            11 => Answer::NoLeg,
-            12 => Answer::TooLong { needed: length },
+            BAD_WORKSPACE => Answer::Refused(Refusal::Workspace),
+            BAD_PLACE => Answer::Refused(Refusal::Place),
+            BAD_MOMENT => Answer::Refused(Refusal::Moment),
+            BAD_AREA => Answer::Refused(Refusal::Area),
+            NO_ROUTE_FOUND => Answer::NoRouteFound,
+            FAILED_TO_BUILD_ROUTE => Answer::FailedToBuildRoute,
+            TOO_LONG => Answer::TooLong { needed: length },
             _ => unreachable!("number {number} is not one for tables that were checked"),
         }
     }
@@ -82,7 +83,7 @@ impl<'b> Answer<'b> {
     /// Document 01's number: 0, or 6 to 12.
     pub fn number(&self) -> u32 {
         match self.journey() {
-            Ok(_) => 0,
+            Ok(_) => FOUND,
             Err(none) => none.number(),
         }
     }
@@ -92,8 +93,8 @@ impl<'b> Answer<'b> {
         Err(match *self {
             Answer::Found { journey, .. } => return Ok(journey),
             Answer::Refused(refusal) => NoJourney::Refused(refusal),
-            Answer::NoRoute => NoJourney::NoRoute,
-            Answer::NoLeg => NoJourney::NoLeg,
+            Answer::NoRouteFound => NoJourney::NoRouteFound,
+            Answer::FailedToBuildRoute => NoJourney::FailedToBuildRoute,
             Answer::TooLong { needed } => NoJourney::TooLong { needed },
         })
     }
@@ -105,9 +106,9 @@ pub enum NoJourney {
     /// 6 to 9: the query was not searched.
     Refused(Refusal),
     /// 10: there is no journey.
-    NoRoute,
+    NoRouteFound,
     /// 11: a stop was chosen, but has no leg. Proved never to come.
-    NoLeg,
+    FailedToBuildRoute,
     /// 12: the journey does not fit into the buffer.
     TooLong {
         /// How many bytes it takes.
@@ -120,9 +121,9 @@ impl NoJourney {
     pub const fn number(&self) -> u32 {
         match self {
             NoJourney::Refused(refusal) => refusal.number(),
-            NoJourney::NoRoute => 10,
-            NoJourney::NoLeg => 11,
-            NoJourney::TooLong { .. } => 12,
+            NoJourney::NoRouteFound => NO_ROUTE_FOUND,
+            NoJourney::FailedToBuildRoute => FAILED_TO_BUILD_ROUTE,
+            NoJourney::TooLong { .. } => TOO_LONG,
         }
     }
 }

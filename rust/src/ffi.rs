@@ -3,7 +3,9 @@
 //! [`Checked`] can be had from [`Checked::new`] alone, so no code outside this file can search words that were not checked.
 #![allow(unsafe_code)]
 
-// As in crates/kiosk_c/include/kiosk.h. Nothing compares the two, so a change there must be made here too.
+use crate::names::{BAD_LEG, FOUND};
+
+// As in crates/kiosk_c/include/kiosk.h, with which tests/kiosk/header.rs compares it.
 extern "C" {
     fn kiosk_check(tables: *const u32, tables_len: usize) -> u32;
 
@@ -79,7 +81,7 @@ impl<'a> Checked<'a> {
     pub(crate) fn new(words: &'a [u32]) -> Result<Checked<'a>, u32> {
         // SAFETY: pointer and length are those of one slice, which the check only reads. It asks nothing of the words themselves.
         match unsafe { kiosk_check(words.as_ptr(), words.len()) } {
-            0 => Ok(Checked(words)),
+            FOUND => Ok(Checked(words)),
             number => Err(number),
         }
     }
@@ -92,7 +94,7 @@ impl<'a> Checked<'a> {
         let mut room = [0; 3];
         // SAFETY: each pointer goes with the length of its slice; the tables are only read, and the three words of `room` are ours.
         let number = unsafe { kiosk_room(self.0.as_ptr(), self.0.len(), room.as_mut_ptr(), room.len()) };
-        assert_eq!(number, 0, "the tables were checked");
+        assert_eq!(number, FOUND, "the tables were checked");
         let [words, marks, places] = room.map(|length| length as usize);
         Room { words, marks, places }
     }
@@ -139,7 +141,7 @@ pub(crate) fn read_journey(bytes: &[u8]) -> Result<usize, usize> {
     // SAFETY: each pointer goes with the length of its slice; the bytes are only read, and the word of `told` is ours.
     let number = unsafe { kiosk_read(bytes.as_ptr(), bytes.len(), told.as_mut_ptr(), told.len()) };
     let told = told[0] as usize; // no more than the bytes that there are
-    if number == 0 {
+    if number == FOUND {
         Ok(told)
     } else {
         Err(told)
@@ -151,5 +153,5 @@ pub(crate) fn read_leg(bytes: &[u8], at: usize) -> Option<([u32; 6], usize)> {
     let mut leg = [0; 6];
     // SAFETY: each pointer goes with the length of its slice; the bytes are only read, and the words of `leg` are ours. Any offset may be asked.
     let size = unsafe { kiosk_leg(bytes.as_ptr(), bytes.len(), at, leg.as_mut_ptr(), leg.len()) };
-    (size > 13).then_some((leg, size as usize))
+    (size > BAD_LEG).then_some((leg, size as usize))
 }

@@ -1,6 +1,7 @@
 //! Journey bytes and the legs in them: one byte of kind, then a body whose length the kind fixes.
 use crate::{
     ffi::{read_journey, read_leg},
+    names::*,
     numbers::words_of,
 };
 use std::{error::Error, fmt, iter::FusedIterator};
@@ -50,8 +51,8 @@ impl fmt::Display for Leg {
 fn leg_at(bytes: &[u8], at: usize) -> Option<(Leg, usize)> {
     let ([kind, from, to, trip, departure, arrival], size) = read_leg(bytes, at)?;
     let kind = match kind {
-        1 => LegKind::Ride { trip },
-        2 => LegKind::Transfer,
+        RIDE => LegKind::Ride { trip },
+        TRANSFER => LegKind::Transfer,
         _ => LegKind::Walk,
     };
     Some((Leg { from, to, departure, arrival, kind }, at + size))
@@ -65,10 +66,10 @@ pub struct Journey<'b> {
 
 impl<'b> Journey<'b> {
     /// Reads any bytes. Empty bytes are zero legs. What the values of the fields mean is not asked; only the search promises that.
-    pub fn read(bytes: &'b [u8]) -> Result<Journey<'b>, BadJourney> {
+    pub fn read(bytes: &'b [u8]) -> Result<Journey<'b>, BadLeg> {
         match read_journey(bytes) {
             Ok(_) => Ok(Journey { bytes }),
-            Err(offset) => Err(BadJourney { offset }),
+            Err(offset) => Err(BadLeg { offset }),
         }
     }
 
@@ -129,22 +130,22 @@ impl FusedIterator for Legs<'_> {}
 
 /// Number 13: bytes that are no journey.
 #[derive(Clone, Copy, Debug, PartialEq, Eq, Hash)]
-pub struct BadJourney {
+pub struct BadLeg {
     /// Where the first bad leg begins.
     pub offset: usize,
 }
 
-impl BadJourney {
+impl BadLeg {
     /// Document 01's number, 13.
     pub const fn number(&self) -> u32 {
-        13
+        BAD_LEG
     }
 }
 
-impl fmt::Display for BadJourney {
+impl fmt::Display for BadLeg {
     fn fmt(&self, f: &mut fmt::Formatter<'_>) -> fmt::Result {
         write!(f, "{} (at offset {})", words_of(self.number()), self.offset)
     }
 }
 
-impl Error for BadJourney {}
+impl Error for BadLeg {}

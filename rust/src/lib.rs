@@ -4,11 +4,13 @@
 mod answer;
 mod ffi;
 mod journey;
+pub mod names;
 mod numbers;
 mod query;
 mod tables;
 
 pub use answer::{Answer, NoJourney, Refusal};
-pub use journey::{BadJourney, Journey, Leg, LegKind, Legs};
+pub use journey::{BadLeg, Journey, Leg, LegKind, Legs};
+pub use names::{DAY, MOST_JOURNEY, VERSION};
 pub use query::{Mode, Place, Query, Walks, When};
 pub use tables::{Tables, TablesError, Workspace};

@@ -1,5 +1,5 @@
 //! What is asked.
-use crate::ffi::QueryWords;
+use crate::{ffi::QueryWords, names::*};
 
 /// Where a journey starts or ends.
 #[derive(Clone, Copy, Debug, PartialEq, Eq, Hash)]
@@ -14,9 +14,9 @@ pub enum Place {
 #[derive(Clone, Copy, Debug, PartialEq, Eq, Hash)]
 pub enum When {
     /// Leave no sooner than this.
-    DepartAt(u32),
+    Departure(u32),
     /// Arrive no later than this.
-    ArriveBy(u32),
+    Arrival(u32),
 }
 
 /// Whether walks may be used. Transfers may always be.
@@ -69,24 +69,24 @@ impl Query {
 
     pub(crate) fn words(&self) -> QueryWords {
         let place = |place| match place {
-            Place::Stop(stop) => [0, stop],
-            Place::Area(area) => [1, area],
+            Place::Stop(stop) => [STOP, stop],
+            Place::Area(area) => [AREA, area],
         };
         QueryWords {
             from: place(self.from),
             to: place(self.to),
             when: match self.when {
-                When::DepartAt(moment) => [0, moment],
-                When::ArriveBy(moment) => [1, moment],
+                When::Departure(moment) => [DEPARTURE, moment],
+                When::Arrival(moment) => [ARRIVAL, moment],
             },
             walks: match self.walks {
-                Walks::Unsaid => 0,
-                Walks::Allowed => 1,
-                Walks::Barred => 2,
+                Walks::Unsaid => WALKS_UNSAID,
+                Walks::Allowed => WALKS_ALLOWED,
+                Walks::Barred => WALKS_BARRED,
             },
             mode: match self.mode {
-                Mode::Source => 0,
-                Mode::Rescan => 1,
+                Mode::Source => SOURCE,
+                Mode::Rescan => RESCAN,
             },
         }
     }

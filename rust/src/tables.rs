@@ -2,6 +2,7 @@
 use crate::{
     answer::Answer,
     ffi::{Checked, Lent, Room},
+    names::*,
     numbers::words_of,
     query::Query,
 };
@@ -9,27 +10,28 @@ use std::{error::Error, fmt};
 
 /// Why tables were refused.
 #[derive(Clone, Copy, Debug, PartialEq, Eq, Hash)]
+#[repr(u32)]
 pub enum TablesError {
     /// 1: a count, a length or the header is wrong.
-    Shape = 1,
+    Count = BAD_COUNT,
     /// 2: an index or a listing rule.
-    Listing = 2,
+    Listing = BAD_LISTING,
     /// 3: the moments of a trip.
-    Moments = 3,
+    Timetable = BAD_TIMETABLE,
     /// 4: the order of a route's trips.
-    Order = 4,
+    Order = BAD_ORDER,
     /// 5: a footpath's distance or span.
-    Footpath = 5,
+    Footpath = BAD_FOOTPATH,
 }
 
 impl TablesError {
     fn from_number(number: u32) -> TablesError {
         match number {
-            1 => TablesError::Shape,
-            2 => TablesError::Listing,
-            3 => TablesError::Moments,
-            4 => TablesError::Order,
-            5 => TablesError::Footpath,
+            BAD_COUNT => TablesError::Count,
+            BAD_LISTING => TablesError::Listing,
+            BAD_TIMETABLE => TablesError::Timetable,
+            BAD_ORDER => TablesError::Order,
+            BAD_FOOTPATH => TablesError::Footpath,
             _ => unreachable!("number {number} is not one for tables"),
         }
     }
@@ -79,7 +81,7 @@ impl<'a> Tables<'a> {
     }
 
     /// Searches. The journey is written to the front of the buffer; where there is none the buffer stays as it was. No journey
-    /// takes more than 17 bytes for each stop of the tables and 60 beside.
+    /// takes more than 17 bytes for each stop of the tables and 60 beside, nor more than [`MOST_JOURNEY`].
     pub fn solve<'b>(&self, workspace: &mut Workspace, buffer: &'b mut [u8], query: &Query) -> Answer<'b> {
         let lent = Lent {
             words: &mut workspace.words,

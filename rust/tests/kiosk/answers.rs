@@ -118,7 +118,7 @@ fn areas_at_either_end() {
     let words = n_with_areas().words();
     let (stop, area) = (Place::Stop, Place::Area);
     for (from, to) in [(area(0), stop(4)), (stop(0), area(1)), (area(0), area(1))] {
-        let query = Query::new(from, to, When::DepartAt(50));
+        let query = Query::new(from, to, When::Departure(50));
         found(&ask(&words, &query), 450, 4, 1, &N1);
     }
     // a station stands for its stops

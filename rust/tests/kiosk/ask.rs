@@ -38,7 +38,7 @@ pub fn ask_with(tables: &Tables, workspace: &mut Workspace, room: usize, query: 
         }
         Answer::TooLong { needed } => Given { length: needed, ..Given::only(number) },
         Answer::Refused(refusal) => Given::only(refusal.number()),
-        Answer::NoRoute | Answer::NoLeg => Given::only(number),
+        Answer::NoRouteFound | Answer::FailedToBuildRoute => Given::only(number),
     };
     let written = if number == 0 { given.length } else { 0 };
     assert!(buffer[written..].iter().all(|&byte| byte == JUNK), "{query:?}: bytes past the journey");
@@ -57,9 +57,9 @@ pub fn ask(words: &[u32], query: &Query) -> Given {
 }
 
 pub fn depart(from: u32, to: u32, moment: u32) -> Query {
-    Query::new(Place::Stop(from), Place::Stop(to), When::DepartAt(moment))
+    Query::new(Place::Stop(from), Place::Stop(to), When::Departure(moment))
 }
 
 pub fn arrive(from: u32, to: u32, moment: u32) -> Query {
-    Query::new(Place::Stop(from), Place::Stop(to), When::ArriveBy(moment))
+    Query::new(Place::Stop(from), Place::Stop(to), When::Arrival(moment))
 }

@@ -1,7 +1,7 @@
 //! Journey bytes, good and damaged.
 use crate::ask::depart;
 use crate::network::n;
-use kiosk::{BadJourney, Journey, Leg, LegKind, Tables, Workspace};
+use kiosk::{BadLeg, Journey, Leg, LegKind, Tables, Workspace};
 
 /// N1's 59 bytes: a ride, a transfer from offset 21 on, a ride from 38 on.
 fn n1_bytes() -> Vec<u8> {
@@ -74,7 +74,7 @@ fn cut_anywhere() {
         let read = Journey::read(&bytes[..length]).map(|journey| journey.legs().count());
         let whole = [0, 21, 38, 59].iter().rposition(|&end| end <= length).unwrap();
         let offset = [0, 21, 38, 59][whole];
-        assert_eq!(read, if offset == length { Ok(whole) } else { Err(BadJourney { offset }) });
+        assert_eq!(read, if offset == length { Ok(whole) } else { Err(BadLeg { offset }) });
     }
 }
 

@@ -21,7 +21,7 @@ fn query(line: &str) -> Query {
         "s" => Place::Stop(number(at + 1)),
         _ => Place::Area(number(at + 1)),
     };
-    let when = if parts[4] == "d" { When::DepartAt(number(5)) } else { When::ArriveBy(number(5)) };
+    let when = if parts[4] == "d" { When::Departure(number(5)) } else { When::Arrival(number(5)) };
     let walks = if parts[6] == "1" { Walks::Allowed } else { Walks::Barred };
     Query::new(place(0), place(2), when).walks(walks)
 }

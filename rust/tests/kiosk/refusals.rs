@@ -118,9 +118,9 @@ fn tables_as_errors() {
         (5, "a distance that is NaN, below 0 or above 100,000; a stated transfer span above 86,400"),
     ];
     let errors =
-        [TablesError::Shape, TablesError::Listing, TablesError::Moments, TablesError::Order, TablesError::Footpath];
+        [TablesError::Count, TablesError::Listing, TablesError::Timetable, TablesError::Order, TablesError::Footpath];
     assert_eq!(errors.map(words_of), all.map(|(number, words)| (number, words.to_string())));
-    assert_eq!(Tables::check(&[]).unwrap_err(), TablesError::Shape);
+    assert_eq!(Tables::check(&[]).unwrap_err(), TablesError::Count);
 }
 
 /// The number of a query on the network with areas, which must leave the workspace as it was.
@@ -155,13 +155,13 @@ fn workspace_6() {
 
 #[test]
 fn query_7() {
-    let place = |from, to| refused(Query::new(from, to, When::DepartAt(50)));
+    let place = |from, to| refused(Query::new(from, to, When::Departure(50)));
     for missing in [Place::Stop(9), Place::Stop(u32::MAX), Place::Area(4), Place::Area(u32::MAX)] {
         assert_eq!(place(missing, Place::Stop(0)), 7);
         assert_eq!(place(Place::Stop(0), missing), 7);
         assert_eq!(place(missing, missing), 7);
         // 7 comes before 8 and 9
-        assert_eq!(refused(Query::new(Place::Stop(0), missing, When::ArriveBy(0))), 7);
+        assert_eq!(refused(Query::new(Place::Stop(0), missing, When::Arrival(0))), 7);
         assert_eq!(place(Place::Area(2), missing), 7);
     }
 }
@@ -172,7 +172,7 @@ fn query_8() {
         assert_eq!(refused(depart(0, 4, moment)), 8);
         assert_eq!(refused(arrive(0, 4, moment)), 8);
         // 8 comes before 9
-        let query = Query::new(Place::Area(2), Place::Stop(4), When::DepartAt(moment));
+        let query = Query::new(Place::Area(2), Place::Stop(4), When::Departure(moment));
         assert_eq!(refused(query), 8);
     }
     for moment in [1, 1_000_000] {
@@ -185,7 +185,7 @@ fn query_8() {
 #[test]
 fn query_9() {
     for barren in [Place::Area(2), Place::Area(3)] {
-        for when in [When::DepartAt(50), When::ArriveBy(450)] {
+        for when in [When::Departure(50), When::Arrival(450)] {
             assert_eq!(refused(Query::new(barren, Place::Stop(4), when)), 9);
             assert_eq!(refused(Query::new(Place::Stop(0), barren, when)), 9);
             assert_eq!(refused(Query::new(barren, barren, when)), 9);
@@ -210,7 +210,7 @@ fn queries_as_errors() {
         assert_eq!((refusal.number(), refusal.to_string()), (number, words.to_string()));
     }
     let errors = refusals.map(NoJourney::Refused).into_iter();
-    for (error, (number, words)) in errors.chain([NoJourney::NoRoute, NoJourney::NoLeg]).zip(all) {
+    for (error, (number, words)) in errors.chain([NoJourney::NoRouteFound, NoJourney::FailedToBuildRoute]).zip(all) {
         assert_eq!((error.number(), error.to_string()), (number, words.to_string()));
     }
 }
