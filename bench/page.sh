@@ -1,5 +1,6 @@
 #!/bin/sh
-# Measures anew and writes the tables of search.sh between their marks in docs/BENCHMARKS.md. A table that was not made stays as it is.
+# Measures anew and writes the tables of search.sh between their marks in docs/BENCHMARKS.md. A table that was not made stays as it is, and so do
+# those of other processors.
 set -eu
 folder=$(dirname "$0")
 page=$folder/../docs/BENCHMARKS.md
@@ -10,7 +11,7 @@ new=$(awk -v made="$made" '
     BEGIN {
         while ((getline line < made) > 0) {
             if (line == "<!-- end -->") mark = ""
-            else if (line ~ /^<!-- [a-z]* -->$/) mark = line
+            else if (line ~ /^<!-- [a-z]+ [a-z0-9_]+ -->$/) mark = line
             else if (mark != "") table[mark] = table[mark] line "\n"
         }
     }

@@ -64,9 +64,11 @@ build() {
     cc -O3 -o "$out/$name" search.c $with -lm -lpthread -ldl
 }
 
-# table NAME COMMAND: a table between its marks.
+# table NAME COMMAND: a table between its marks, which name the processor too, since the page holds a table of each kind of processor.
 table() {
-    printf '<!-- %s -->\n\n' "$1"
+    printf '<!-- %s %s -->\n\n' "$1" "$(uname -m)"
+    printf '%s (%s), %s cores, %s, load %s when it began:\n\n' "$(lscpu | sed -n 's/^Model name: *//p' | head -n 1)" "$(uname -m)" "$(nproc)" \
+        "$(date +%Y-%m-%d)" "$(cut -d ' ' -f 1 /proc/loadavg)"
     shift
     "$@"
     printf '\n<!-- end -->\n'

@@ -11,6 +11,12 @@ python3 tests/face/long.py > "$out/long.txt"
 for name in N long; do tools/timetable.py "$out/$name.txt" > "$out/$name.net"; done
 for name in M town; do tools/timetable.py "examples/$name.txt" > "$out/$name.net"; done
 
+# the library has no state of its own, and calls nothing but what fills and copies memory
+nm "$lib/libkiosk_c.a" | awk '
+    NF < 2 || $(NF - 1) ~ /^[rRtT]$/ || ($(NF - 1) == "U" && $NF ~ /^mem(set|cpy|move)$/) { next }
+    { print "neither code nor a constant of the library: " $0; found = 1 }
+    END { exit found }'
+
 # run COMPILER.. : no warning as the header stands in a program that uses all of it, and then the program
 run() {
     "$@" -O2 -Wall -Wextra -Wconversion -Wsign-conversion -Wshadow -pedantic -Werror -D_POSIX_C_SOURCE=200809L -pthread \

@@ -23,7 +23,8 @@ fn names_of_header() -> Vec<(String, u64)> {
 
 #[test]
 fn the_same_names() {
-    let constants = NAMES.lines().filter_map(|line| line.strip_prefix("pub const ")?.strip_suffix(';')?.split_once(" = "));
+    let constants =
+        NAMES.lines().filter_map(|line| line.strip_prefix("pub const ")?.strip_suffix(';')?.split_once(" = "));
     let mut names: Vec<(String, u64)> = constants
         .map(|(name, value)| (name.split(':').next().unwrap().to_string(), value.replace('_', "").parse().unwrap()))
         .collect();
