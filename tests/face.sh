@@ -17,6 +17,10 @@ nm "$lib/libkiosk_c.a" | awk '
     { print "neither code nor a constant of the library: " $0; found = 1 }
     END { exit found }'
 
+# the most bytes of a journey are those of the theorem
+proved=$(sed -n 's/.* length-most : .* ≤ \([0-9_]*\)$/\1/p' crates/raptor/proofs/Promises.antt | tr -d _)
+grep -q "^#define KIOSK_MOST_JOURNEY $proved\$" crates/kiosk_c/include/kiosk.h || { echo "the theorem says $proved bytes, kiosk.h does not"; exit 1; }
+
 # run COMPILER.. : no warning as the header stands in a program that uses all of it, and then the program
 run() {
     "$@" -O2 -Wall -Wextra -Wconversion -Wsign-conversion -Wshadow -pedantic -Werror -D_POSIX_C_SOURCE=200809L -pthread \

@@ -84,9 +84,9 @@ uint32_t kiosk_room(const uint32_t *tables, size_t tables_len, uint32_t *room, s
 
 /* Checks everything, then searches. Gives the number, which is also the first word of the answer.
 
-   The answer, 5 words: number, time, stop, round, length. 0 gives all: the moment of arrival at the stop, or of departure from it where an arrival
-   was asked for; one round less than there are rides; how many bytes of `journey` the legs take. 12 gives only the length needed; every other number
-   leaves the four 0. Where answer_len is below 5 nothing is written and the number is the tables' own, or 6.
+   The answer, 5 words: number, time, stop, round, length. 0 gives all: the moment of arrival at the stop (where an arrival was asked for, that of
+   departure from it), the stop, one less than the rides, and how many bytes of `journey` the legs take. 12 gives only the length needed; every
+   other number leaves the four 0. Where answer_len is below 5 nothing is written, and the number is the tables' own, or 6.
    words, marks and places are the workspace, of exactly the lengths that kiosk_room gives. It need not be cleared. It is untouched on 1 to 9.
    journey takes the legs on 0; its other bytes, and on any other number all of them, stay as they were. */
 uint32_t kiosk_solve(const uint32_t *tables, size_t tables_len, uint32_t *words, size_t words_len, uint64_t *marks, size_t marks_len,
