@@ -2,6 +2,8 @@
 ghost use mathlib.Core.Path.{_≡_};
 ghost use Prim.Native.Nat.{_≤_, _<_};
 ghost use lib.ListN.{length};
+ghost use Rattle.lines.specs.Token.{longerBy};
+ghost use Rattle.lines.specs.Step.{fresh, closed, stored, begun, lineAfter, wordsAfter};
 
 // What is known of the line so far.
 pub struct Line {
@@ -14,11 +16,13 @@ pub struct Line {
     // the line has ended
     pub ended: bool,
     // a token is open, and its value so far
-    open: bool,
+    inside: bool,
     value: u64,
 }
 
+// A line before its first byte.
 pub fn new() -> Line
+    ensures { λ l. ⌜ l ≡ fresh ⌝ }
     ensures { λ l. ⌜ l .value ≤ 4294967296 ⌝ }
 {
     Line {
@@ -26,7 +30,7 @@ pub fn new() -> Line
         count: 0,
         bad: false,
         ended: false,
-        open: false,
+        inside: false,
         value: 0,
     }
 }
@@ -34,6 +38,7 @@ pub fn new() -> Line
 // The value of an open token with one more byte: ten times the value and the digit; a letter stands for itself.
 pub fn longer(value: u64, b: u8) -> u64
     requires { ⌜ value ≤ 4294967296 ⌝ }
+    ensures { λ r. ⌜ r ≡ longerBy value b ⌝ }
     ensures { λ r. ⌜ r ≤ 4294967296 ⌝ }
 {
     if b < 48 {
@@ -52,12 +57,14 @@ pub fn longer(value: u64, b: u8) -> u64
 // The line with its open token closed: the first one has named the line, each other one is stored as a word.
 fn close(words: &mut [u32], l: Line) -> Line
     requires { ⌜ l .value ≤ 4294967296 ⌝ }
+    ensures { λ r. ⌜ r ≡ closed (length (now (words .entry))) l ⌝ }
+    ensures { λ _. ⌜ now (words .exit) ≡ stored (now (words .entry)) l ⌝ }
     ensures { λ r. ⌜ r .value ≤ 4294967296 ⌝ }
 {
     let count = l.count;
     let named = l.name;
     let value = l.value;
-    if !l.open {
+    if !l.inside {
         return l;
     }
     if named == 0 {
@@ -66,7 +73,7 @@ fn close(words: &mut [u32], l: Line) -> Line
             count: count,
             bad: l.bad,
             ended: false,
-            open: false,
+            inside: false,
             value: 0,
         };
     }
@@ -76,7 +83,7 @@ fn close(words: &mut [u32], l: Line) -> Line
             count: count,
             bad: true,
             ended: false,
-            open: false,
+            inside: false,
             value: 0,
         };
     }
@@ -87,7 +94,7 @@ fn close(words: &mut [u32], l: Line) -> Line
             count: count + 1,
             bad: l.bad,
             ended: false,
-            open: false,
+            inside: false,
             value: 0,
         };
     }
@@ -96,7 +103,7 @@ fn close(words: &mut [u32], l: Line) -> Line
         count: count,
         bad: true,
         ended: false,
-        open: false,
+        inside: false,
         value: 0,
     }
 }
@@ -104,6 +111,8 @@ fn close(words: &mut [u32], l: Line) -> Line
 // The line with one more byte. A byte after a line's end begins the next one.
 pub fn step(words: &mut [u32], l: Line, b: u8) -> Line
     requires { ⌜ l .value ≤ 4294967296 ⌝ }
+    ensures { λ r. ⌜ r ≡ lineAfter (length (now (words .entry))) (begun l) b ⌝ }
+    ensures { λ _. ⌜ now (words .exit) ≡ wordsAfter (now (words .entry)) (begun l) b ⌝ }
     ensures { λ r. ⌜ r .value ≤ 4294967296 ⌝ }
 {
     if l.ended {
@@ -114,6 +123,8 @@ pub fn step(words: &mut [u32], l: Line, b: u8) -> Line
 
 fn step_on(words: &mut [u32], l: Line, b: u8) -> Line
     requires { ⌜ l .value ≤ 4294967296 ⌝ }
+    ensures { λ r. ⌜ r ≡ lineAfter (length (now (words .entry))) l b ⌝ }
+    ensures { λ _. ⌜ now (words .exit) ≡ wordsAfter (now (words .entry)) l b ⌝ }
     ensures { λ r. ⌜ r .value ≤ 4294967296 ⌝ }
 {
     if b == 10 {
@@ -123,23 +134,23 @@ fn step_on(words: &mut [u32], l: Line, b: u8) -> Line
             count: c.count,
             bad: c.bad,
             ended: true,
-            open: false,
+            inside: false,
             value: 0,
         };
     }
     if b == 32 {
         return close(words, l);
     }
-    let open = l.open;
+    let inside = l.inside;
     let value = l.value;
     let named = l.name;
-    if open {
+    if inside {
         return Line {
             name: named,
             count: l.count,
             bad: l.bad,
             ended: false,
-            open: true,
+            inside: true,
             value: longer(value, b),
         };
     }
@@ -148,7 +159,7 @@ fn step_on(words: &mut [u32], l: Line, b: u8) -> Line
         count: l.count,
         bad: l.bad,
         ended: false,
-        open: true,
+        inside: true,
         value: longer(0, b),
     }
 }

@@ -1,0 +1,114 @@
+-- A line with its token closed, and with one more byte, by the tests that the code makes. Assumes nothing.
+use Prim.Native.Nat.{ℕ, _+_, _≤_, _<_}
+use mathlib.Core.Path.{_≡_, _∙_}
+use mathlib.Core.Bool.{true, false, not}
+use mathlib.Core.List.{List}
+use native.Mathlib.Omega.{arith}
+use lib.ListN.{length, set}
+use borrow.Author.Tests.{lt-ltb, le-ltb, eq-eqb, ne-eqb, not-true, not-false}
+use Rattle.lines.specs.declared.Line.{Line}
+use Rattle.lines.specs.Token.{held, longerBy}
+use Rattle.lines.specs.Step.{between, fresh, stores, closed, stored, opened, begun, atEnd, lineAfter, wordsAfter}
+
+-- ---- a token that is closed
+module _ (w : List ℕ) (l : Line) where
+  pub none-closed : not (l .inside) ≡ true → l ≡ closed (length w) l
+  unfolding closed
+  none-closed i = rw (not-true (l .inside) i)
+
+  pub none-stored : not (l .inside) ≡ true → w ≡ stored w l
+  unfolding stored stores
+  none-stored i = rw (not-true (l .inside) i)
+
+  module _ (i : not (l .inside) ≡ false) where
+    pub name-closed : l .name ≡ 0 → between (l .value) (l .count) (l .bad) false ≡ closed (length w) l
+    unfolding closed
+    name-closed e = rw (not-false (l .inside) i, eq-eqb (l .name) 0 e)
+
+    pub name-stored : l .name ≡ 0 → w ≡ stored w l
+    unfolding stored stores
+    name-stored e = rw (not-false (l .inside) i, le-ltb 0 (l .name) (omega arith))
+
+    module _ (named : l .name ≡ 0 → ⊥) where
+      pub large-closed : l .value ≡ held → between (l .name) (l .count) true false ≡ closed (length w) l
+      unfolding closed stores
+      large-closed e = rw (not-false (l .inside) i, ne-eqb (l .name) 0 named, lt-ltb 0 (l .name) (omega arith), le-ltb (l .value) held (omega arith))
+
+      pub large-stored : l .value ≡ held → w ≡ stored w l
+      unfolding stored stores
+      large-stored e = rw (not-false (l .inside) i, lt-ltb 0 (l .name) (omega arith), le-ltb (l .value) held (omega arith))
+
+      module _ (small : l .value ≡ held → ⊥) (most : l .value ≤ held) where
+        pub word-closed : l .count < length w → between (l .name) (l .count + 1) (l .bad) false ≡ closed (length w) l
+        unfolding closed stores
+        word-closed h =
+            rw (not-false (l .inside) i, ne-eqb (l .name) 0 named, lt-ltb 0 (l .name) (omega arith), lt-ltb (l .value) held (omega arith), lt-ltb (l .count) (length w) h)
+
+        pub word-stored : l .count < length w → set w (l .count) (l .value) ≡ stored w l
+        unfolding stored stores
+        word-stored h =
+            rw (not-false (l .inside) i, lt-ltb 0 (l .name) (omega arith), lt-ltb (l .value) held (omega arith), lt-ltb (l .count) (length w) h)
+
+        pub full-closed : length w ≤ l .count → between (l .name) (l .count) true false ≡ closed (length w) l
+        unfolding closed stores
+        full-closed h =
+            rw (not-false (l .inside) i, ne-eqb (l .name) 0 named, lt-ltb 0 (l .name) (omega arith), lt-ltb (l .value) held (omega arith), le-ltb (l .count) (length w) h)
+
+        pub full-stored : length w ≤ l .count → w ≡ stored w l
+        unfolding stored stores
+        full-stored h =
+            rw (not-false (l .inside) i, lt-ltb 0 (l .name) (omega arith), lt-ltb (l .value) held (omega arith), le-ltb (l .count) (length w) h)
+
+-- ---- a byte more
+abbrev pub tokenOf : Line → ℕ → Line
+tokenOf l v = record { name = l .name; count = l .count; bad = l .bad; ended = false; inside = true; value = v }
+
+module _ (w : List ℕ) (l : Line) (b : ℕ) where
+  pub newline-line : {c : Line} → c ≡ closed (length w) l → b ≡ 10
+      → between (c .name) (c .count) (c .bad) true ≡ lineAfter (length w) l b
+  unfolding lineAfter atEnd
+  newline-line e h = rw (eq-eqb b 10 h, e)
+
+  pub newline-words : {v : List ℕ} → v ≡ stored w l → b ≡ 10 → v ≡ wordsAfter w l b
+  unfolding wordsAfter
+  newline-words e h = e ∙ rw (eq-eqb b 10 h)
+
+  module _ (h : b ≡ 10 → ⊥) where
+    pub space-line : {c : Line} → c ≡ closed (length w) l → b ≡ 32 → c ≡ lineAfter (length w) l b
+    unfolding lineAfter
+    space-line e g = e ∙ rw (ne-eqb b 10 h, eq-eqb b 32 g)
+
+    pub space-words : {v : List ℕ} → v ≡ stored w l → b ≡ 32 → v ≡ wordsAfter w l b
+    unfolding wordsAfter
+    space-words e g = e ∙ rw (ne-eqb b 10 h, eq-eqb b 32 g)
+
+    module _ (g : b ≡ 32 → ⊥) where
+      pub token-line : {v : ℕ} → l .inside ≡ true → v ≡ longerBy (l .value) b → tokenOf l v ≡ lineAfter (length w) l b
+      unfolding lineAfter opened
+      token-line i e = rw (ne-eqb b 10 h, ne-eqb b 32 g, i, e)
+
+      pub token-opens : {v : ℕ} → l .inside ≡ false → v ≡ longerBy 0 b → tokenOf l v ≡ lineAfter (length w) l b
+      unfolding lineAfter opened
+      token-opens i e = rw (ne-eqb b 10 h, ne-eqb b 32 g, i, e)
+
+      pub token-words : w ≡ wordsAfter w l b
+      unfolding wordsAfter
+      token-words = rw (ne-eqb b 10 h, ne-eqb b 32 g)
+
+-- ---- a byte after a line's end, and one within it
+module _ (w : List ℕ) (l : Line) (b : ℕ) where
+  pub anew-line : {f r : Line} → l .ended ≡ true → f ≡ fresh → r ≡ lineAfter (length w) f b → r ≡ lineAfter (length w) (begun l) b
+  unfolding begun
+  anew-line h e g = g ∙ rw (h, e)
+
+  pub anew-words : {f : Line} {v : List ℕ} → l .ended ≡ true → f ≡ fresh → v ≡ wordsAfter w f b → v ≡ wordsAfter w (begun l) b
+  unfolding begun
+  anew-words h e g = g ∙ rw (h, e)
+
+  pub on-line : {r : Line} → l .ended ≡ false → r ≡ lineAfter (length w) l b → r ≡ lineAfter (length w) (begun l) b
+  unfolding begun
+  on-line h g = g ∙ rw h
+
+  pub on-words : {v : List ℕ} → l .ended ≡ false → v ≡ wordsAfter w l b → v ≡ wordsAfter w (begun l) b
+  unfolding begun
+  on-words h g = g ∙ rw h

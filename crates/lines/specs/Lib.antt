@@ -1,0 +1,3 @@
+-- The definitions that the contracts of `lines` cite.
+pub mod Token
+pub mod Step
