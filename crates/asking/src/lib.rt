@@ -1,4 +1,7 @@
 // What the programs share: a query from the words of a line, and its answer, with the workspace cut from slices that are large enough.
+ghost use mathlib.Core.Path.{_≡_};
+ghost use Rattle.asking.specs.Queries.{placeOf, momentOf, walksOf, modeOf, queryIn};
+ghost use Rattle.asking.specs.Tells.{Tells};
 use model::Answer;
 use model::Location;
 use model::Mode;
@@ -26,7 +29,9 @@ enum Place {
     Nowhere,
 }
 
-fn place_of(kind: u32, at: u32) -> Place {
+fn place_of(kind: u32, at: u32) -> Place
+    ensures { λ r. ⌜ r ≡ placeOf kind at ⌝ }
+{
     match kind {
         115 => return Place::At(Location::Stop(at)),
         97 => return Place::At(Location::Area(at)),
@@ -40,7 +45,9 @@ enum When {
     Never,
 }
 
-fn moment_of(kind: u32, moment: u32) -> When {
+fn moment_of(kind: u32, moment: u32) -> When
+    ensures { λ r. ⌜ r ≡ momentOf kind moment ⌝ }
+{
     match kind {
         100 => return When::At(TimeConstraint::Departure(Time(moment))),
         97 => return When::At(TimeConstraint::Arrival(Time(moment))),
@@ -49,7 +56,9 @@ fn moment_of(kind: u32, moment: u32) -> When {
 }
 
 // 0 bars walks, 1 allows them, anything else does not say.
-fn walks(word: u32) -> Walks {
+fn walks(word: u32) -> Walks
+    ensures { λ r. ⌜ r ≡ walksOf word ⌝ }
+{
     match word {
         0 => return Walks::Barred,
         1 => return Walks::Allowed,
@@ -58,7 +67,9 @@ fn walks(word: u32) -> Walks {
 }
 
 // `r` is the rescan mode, anything else the source's.
-fn mode(word: u32) -> Mode {
+fn mode(word: u32) -> Mode
+    ensures { λ r. ⌜ r ≡ modeOf word ⌝ }
+{
     if word == 114 {
         return Mode::Rescan;
     }
@@ -66,7 +77,9 @@ fn mode(word: u32) -> Mode {
 }
 
 // The query that the words `fromkind from tokind to d|a moment walks` are, in a mode.
-pub fn query(line: &[u32], how: u32) -> Asked {
+pub fn query(line: &[u32], how: u32) -> Asked
+    ensures { λ r. ⌜ r ≡ queryIn (now (line .entry)) how ⌝ }
+{
     if line.len() < 7 {
         return Asked::Nothing;
     }
@@ -101,7 +114,9 @@ pub fn ask(
     places: &mut [u32],
     journey: &mut [u8],
     q: Query,
-) -> Told {
+) -> Told
+    ensures { λ r. ⌜ Tells (now (tables .entry)) q (now (words .entry)) (now (marks .entry)) (now (places .entry)) (now (journey .entry)) r (now (words .exit)) (now (marks .exit)) (now (places .exit)) (now (journey .exit)) ⌝ }
+{
     let needed = raptor::room(tables);
     match needed {
         Needed::Lengths {

@@ -1,6 +1,7 @@
--- `asking::ask`: each slice is as long as its part.
+-- `asking::ask`: each slice is as long as its part, and each way out is one law.
 use borrow.Author.Needs.{needs}
 use Rattle.asking.proofs.Parts.{part-long}
+use Rattle.asking.proofs.Telling.{tells-refused, few-words, few-marks, few-places, tells-solved}
 use Rattle.asking.proofs.ask.Statement.{statement}
 use Rattle.asking.proofs.ask.Tie as tie
 
@@ -11,13 +12,13 @@ enum-known-needed : tie.Need-enum-known-needed
 enum-known-needed c = search needs
 
 returns : tie.Need-returns
-returns c = search needs
+returns c = search (needs, few-words)
 
 returns-2 : tie.Need-returns-2
-returns-2 c = search needs
+returns-2 c = search (needs, few-marks)
 
 returns-3 : tie.Need-returns-3
-returns-3 c = search needs
+returns-3 c = search (needs, few-places)
 
 slice-relend-prefix-solve : tie.Need-slice-relend-prefix-solve
 slice-relend-prefix-solve c = search needs
@@ -53,13 +54,13 @@ same-length-4 : tie.Need-same-length-4
 same-length-4 c = search needs
 
 returns-4 : tie.Need-returns-4
-returns-4 c = search needs
+returns-4 c = search (needs, tells-solved)
 
 enum-known-needed-2 : tie.Need-enum-known-needed-2
 enum-known-needed-2 c = search needs
 
 returns-5 : tie.Need-returns-5
-returns-5 c = search needs
+returns-5 c = search (needs, tells-refused)
 
 pub ask-spec : {M : Type 1} → statement M
 ask-spec =

@@ -1,0 +1,3 @@
+-- The definitions that the contracts of `asking` cite.
+pub mod Queries
+pub mod Tells
