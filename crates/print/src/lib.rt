@@ -3,7 +3,9 @@ use journey::LegRead;
 use libc::STDOUT_FILENO;
 use model::Leg;
 use model::LegType;
+ghost use mathlib.Core.Path.{_≡_};
 ghost use Prim.Native.Nat.{_≤_};
+ghost use Rattle.model.specs.Bytes.{legSize};
 
 pub fn text(bytes: &[u8]) {
     io::write_all(STDOUT_FILENO, bytes);
@@ -61,6 +63,7 @@ pub fn leg(g: Leg, none: &[u8]) {
 
 // How many bytes a leg takes.
 pub fn size(g: Leg) -> usize
+    ensures { λ z. ⌜ z ≡ legSize (g .kind) ⌝ }
     ensures { λ z. ⌜ 1 ≤ z ⌝ }
     ensures { λ z. ⌜ z ≤ 21 ⌝ }
 {
