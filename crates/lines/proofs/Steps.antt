@@ -4,6 +4,7 @@ use mathlib.Core.Path.{_≡_, _∙_}
 use mathlib.Core.Bool.{true, false, not}
 use mathlib.Core.List.{List}
 use native.Mathlib.Omega.{arith}
+use lib.Dec.{ltb}
 use lib.ListN.{length, set}
 use borrow.Author.Tests.{lt-ltb, le-ltb, eq-eqb, ne-eqb, not-true, not-false}
 use Rattle.lines.specs.declared.Line.{Line}
@@ -12,13 +13,17 @@ use Rattle.lines.specs.Step.{between, fresh, stores, closed, stored, ope
 
 -- ---- a token that is closed
 module _ (w : List ℕ) (l : Line) where
+  not-stored : stores (length w) l ≡ false → w ≡ stored w l
+  unfolding stored
+  not-stored e = rw e
+
   pub none-closed : not (l .inside) ≡ true → l ≡ closed (length w) l
   unfolding closed
   none-closed i = rw (not-true (l .inside) i)
 
   pub none-stored : not (l .inside) ≡ true → w ≡ stored w l
-  unfolding stored stores
-  none-stored i = rw (not-true (l .inside) i)
+  unfolding stores
+  none-stored i = not-stored (rw (not-true (l .inside) i))
 
   module _ (i : not (l .inside) ≡ false) where
     pub name-closed : l .name ≡ 0 → between (l .value) (l .count) (l .bad) false ≡ closed (length w) l
@@ -26,38 +31,42 @@ module _ (w : List ℕ) (l : Line) where
     name-closed e = rw (not-false (l .inside) i, eq-eqb (l .name) 0 e)
 
     pub name-stored : l .name ≡ 0 → w ≡ stored w l
-    unfolding stored stores
-    name-stored e = rw (not-false (l .inside) i, le-ltb 0 (l .name) (omega arith))
+    unfolding stores
+    name-stored e = not-stored (rw (not-false (l .inside) i, le-ltb 0 (l .name) (omega arith)))
 
     module _ (named : l .name ≡ 0 → ⊥) where
+      bad-closed : stores (length w) l ≡ false → between (l .name) (l .count) true false ≡ closed (length w) l
+      unfolding closed
+      bad-closed e = rw (e, not-false (l .inside) i, ne-eqb (l .name) 0 named)
+
+      large : l .value ≡ held → stores (length w) l ≡ false
+      unfolding stores
+      large e = rw (not-false (l .inside) i, lt-ltb 0 (l .name) (omega arith), le-ltb (l .value) held (omega arith))
+
       pub large-closed : l .value ≡ held → between (l .name) (l .count) true false ≡ closed (length w) l
-      unfolding closed stores
-      large-closed e = rw (not-false (l .inside) i, ne-eqb (l .name) 0 named, lt-ltb 0 (l .name) (omega arith), le-ltb (l .value) held (omega arith))
+      large-closed e = bad-closed (large e)
 
       pub large-stored : l .value ≡ held → w ≡ stored w l
-      unfolding stored stores
-      large-stored e = rw (not-false (l .inside) i, lt-ltb 0 (l .name) (omega arith), le-ltb (l .value) held (omega arith))
+      large-stored e = not-stored (large e)
 
       module _ (small : l .value ≡ held → ⊥) (most : l .value ≤ held) where
+        by-room : stores (length w) l ≡ ltb (l .count) (length w)
+        unfolding stores
+        by-room = rw (not-false (l .inside) i, lt-ltb 0 (l .name) (omega arith), lt-ltb (l .value) held (omega arith))
+
         pub word-closed : l .count < length w → between (l .name) (l .count + 1) (l .bad) false ≡ closed (length w) l
-        unfolding closed stores
-        word-closed h =
-            rw (not-false (l .inside) i, ne-eqb (l .name) 0 named, lt-ltb 0 (l .name) (omega arith), lt-ltb (l .value) held (omega arith), lt-ltb (l .count) (length w) h)
+        unfolding closed
+        word-closed h = rw (by-room, lt-ltb (l .count) (length w) h, not-false (l .inside) i, ne-eqb (l .name) 0 named)
 
         pub word-stored : l .count < length w → set w (l .count) (l .value) ≡ stored w l
-        unfolding stored stores
-        word-stored h =
-            rw (not-false (l .inside) i, lt-ltb 0 (l .name) (omega arith), lt-ltb (l .value) held (omega arith), lt-ltb (l .count) (length w) h)
+        unfolding stored
+        word-stored h = rw (by-room, lt-ltb (l .count) (length w) h)
 
         pub full-closed : length w ≤ l .count → between (l .name) (l .count) true false ≡ closed (length w) l
-        unfolding closed stores
-        full-closed h =
-            rw (not-false (l .inside) i, ne-eqb (l .name) 0 named, lt-ltb 0 (l .name) (omega arith), lt-ltb (l .value) held (omega arith), le-ltb (l .count) (length w) h)
+        full-closed h = bad-closed (by-room ∙ le-ltb (l .count) (length w) h)
 
         pub full-stored : length w ≤ l .count → w ≡ stored w l
-        unfolding stored stores
-        full-stored h =
-            rw (not-false (l .inside) i, lt-ltb 0 (l .name) (omega arith), lt-ltb (l .value) held (omega arith), le-ltb (l .count) (length w) h)
+        full-stored h = not-stored (by-room ∙ le-ltb (l .count) (length w) h)
 
 -- ---- a byte more
 abbrev pub tokenOf : Line → ℕ → Line

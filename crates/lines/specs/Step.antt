@@ -1,4 +1,4 @@
--- What one more byte does to a line, and to the words of which n are lent to store the line's words in.
+-- What one more byte does to a line, and to the n words that are lent for the line's words to be stored in.
 use Prim.Native.Nat.{ℕ, _+_}
 use mathlib.Core.Bool.{Bool, true, false, cond, _&&_, _||_}
 use mathlib.Core.List.{List}
@@ -7,7 +7,7 @@ use lib.ListN.{length, set}
 use Rattle.lines.specs.declared.Line.{Line}
 use Rattle.lines.specs.Token.{held, longerBy}
 
--- a line with no token open
+-- a line between two tokens
 abbrev pub between : ℕ → ℕ → Bool → Bool → Line
 between name count bad ended = record { name = name; count = count; bad = bad; ended = ended; inside = false; value = 0 }
 
@@ -27,6 +27,7 @@ closed n l =
     (cond (stores n l) (between (l .name) (l .count + 1) (l .bad) false) (between (l .name) (l .count) true false)))
     l
 
+-- the lent words with that word at the place of its count
 unfoldable pub stored : List ℕ → Line → List ℕ
 stored w l = cond (stores (length w) l) (set w (l .count) (l .value)) w
 

@@ -15,7 +15,7 @@ pub struct Line {
     pub bad: bool,
     // the line has ended
     pub ended: bool,
-    // a token is open, and its value so far
+    // the line is inside a token, and the token's value so far
     inside: bool,
     value: u64,
 }

@@ -1,6 +1,7 @@
 -- `lines::close`: one law for each way out, of the line and of the words.
 use borrow.Author.Needs.{needs}
-use Rattle.lines.proofs.Steps.{none-closed, none-stored, name-closed, name-stored, large-closed, large-stored, word-closed, word-stored, full-closed, full-stored}
+use Rattle.lines.proofs.Steps.{none-closed, name-closed, large-closed, word-closed, full-closed}
+use Rattle.lines.proofs.Steps.{none-stored, name-stored, large-stored, word-stored, full-stored}
 use Rattle.lines.proofs.close.Statement.{statement}
 use Rattle.lines.proofs.close.Tie as tie
 
