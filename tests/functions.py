@@ -1,68 +1,234 @@
 #!/usr/bin/env python3
-# Writes docs/FUNCTIONS.md: every public function of every crate, what its contract says, and what it asks of its caller. A public
-# function that states nothing must stand among the exceptions below, with the reason; with `check` it says whether the page is as it should be.
+# Writes docs/FUNCTIONS.md: every public function of every crate, what its contract says of its result and of each thing lent to be written, and by
+# what two results that meet it are equal. A function that leaves something unsaid or open must stand in a list below, alone and with the reason;
+# one that stands there without need is an error too. With `check` the page is only held to the tree.
 import glob, os, re, sys
 
-os.chdir(os.path.join(os.path.dirname(os.path.abspath(__file__)), ".."))
-EXCEPTIONS = {
-    "lines": "reads the text of the programs' input; nothing that is promised rests on it",
-    "print": "prints; no contract can say what is printed",
-    "asking": "turns a line into a query for the programs, and cuts the workspace; what it is told is `solve`'s answer",
+sys.dont_write_bytecode = True  # no folder of compiled scripts in the tree
+from reading import HERE, crates, every_function, source, text_of
+
+# What prints or reads: where the words come from or go to is in no contract of the kit's `io` and `os`, so the tests compare it.
+PRINTS = "prints"
+READS = "reads its arguments or a file"
+OUTSIDE = {
+    "print::text": PRINTS,
+    "print::number": PRINTS,
+    "print::field": PRINTS,
+    "print::leg": PRINTS,
+    "print::legs": PRINTS,
+    "replay::probe::answer_line": PRINTS,
+    "replay::rust::answer_line": PRINTS,
+    "kiosk::meant::print_meant": PRINTS,
+    "kiosk::meant::print_missing": PRINTS,
+    "kiosk::moment::print_moment": PRINTS,
+    "kiosk::options::with_option": PRINTS + " what is wrong with an option; what it means is `arguments::options::with_said`",
+    "kiosk::query::read_query": READS,
+    "kiosk::query::asks_help": READS,
+    "kiosk::tables::load": READS,
+    "kiosk::tables::print_fault": PRINTS,
+    "kiosk::telling::tell": PRINTS,
 }
-# Functions of which a statement leaves something open, and why.
-OPEN = {
-    "discovery::find_earliest_trip": "the trip and that its place is one of the route's; that a trip has one place there is a listing rule, and no law says so here",
-    "discovery::find_latest_trip": "as for `find_earliest_trip`",
-    "explorer_rides::seat::catch_trip": "left open: the place of the trip, which only says where to look first, and what a ride without a trip holds",
+# What states less than it could, and why that is borne: nothing.
+LESS = {}
+# Where two results that meet the statement may differ, in what, and why that is borne: nowhere.
+OPEN = {}
+# What fixes the words and marks or the whole where a clause is no equation: a word of the clause, and the law that two things it holds of are equal.
+LAWS = {
+    "Solved": ("raptor/proofs/Unique.antt", "solved-unique"),
+    "Faced": ("kiosk_c/proofs/Unique.antt", "faced-unique"),
+    "Ran": ("raptor/proofs/Unique.antt", "ran-unique"),
+    "Tells": ("asking/proofs/Unique.antt", "asked-unique"),
+    "Tidy": ("allocator/proofs/Same.antt", "same-words"),
+    "Kept": ("allocator/proofs/Same.antt", "same-words"),
 }
-PROGRAM = "a part of a program; what the program prints is held to a list (its `stdout`, `tests/`)"
-rows, wrong = [], 0
-for line in open("crates.txt"):
-    crate = line.split(":")[0].strip()
-    if line.startswith("#") or not os.path.isdir(f"crates/{crate}/src"):
-        continue
-    if os.path.exists(f"crates/{crate}/src/main.rt"):
-        EXCEPTIONS[crate] = PROGRAM
-    for path in sorted(glob.glob(f"crates/{crate}/src/*.rt")):
-        text = open(path, encoding="utf-8").read()
-        for m in re.finditer(r"^pub (?:extern \"C\" )?fn (\w+)\((.*?)(?:^\{|\) \{$|> \w+ \{$)", text, re.M | re.S):
-            name, head = m.group(1), m.group(2)
-            cut = lambda word: [" ".join(c.split()) for c in re.findall(word + r" \{(.*?⌝) \}", head, re.S)]
-            asks, says = len(cut("requires")), cut("ensures")
-            module = os.path.basename(path)[:-3]
-            where = f"{crate}::{name}" if module == "lib" else f"{crate}::{module}::{name}"
-            words = sorted(set(re.findall(r"(?<![.\w-])([A-Za-z][\w′]*[A-Z]\w*|[A-Z]\w+|[a-z]+[A-Z]\w*)", " ".join(says))))
-            if not says and crate not in EXCEPTIONS:
-                print(f"{path}: {name} states nothing")
-                wrong += 1
-            equation = any("≡" in c for c in says)
-            said = ", ".join(f"`{w}`" for w in words) if words else "an equation" if equation else "a bound only" if says else ""
-            if crate in EXCEPTIONS and not equation:
-                said = (said + ": " if said else "") + EXCEPTIONS[crate]
-            if where in OPEN:
-                said += "; " + OPEN[where]
-            rows.append(f"| `{where}` | `{path[len('crates/'):]}` | {asks or ''} | {len(says) or ''} | {said} |")
+EQUATION = "equation"
+
+
+def sides(conjunct):
+    """The two sides of an equation, or nothing: one that holds only on a condition is none."""
+    depth, at_equals = 0, None
+    for at, c in enumerate(conjunct):
+        depth += (c in "({[⟦") - (c in ")}]⟧")
+        if depth == 0 and c in "→↔⊎":
+            return None
+        if depth == 0 and c == "≡" and at_equals is None:
+            at_equals = at
+    return at_equals and (conjunct[:at_equals].strip(), conjunct[at_equals + 1 :].strip())
+
+
+def parts(clause):
+    """The result's name in a clause, and its conjuncts."""
+    found = re.match(r"λ\s*\(?\s*([^\s.:)]+)[^.]*\.\s*(.*)$", clause, re.S)
+    name, body = (found.group(1), found.group(2)) if found else ("_", clause)
+    body = body.strip().removeprefix("⌜").removesuffix("⌝").strip()
+    pieces, depth, start = [], 0, 0
+    for at, c in enumerate(body):
+        depth += (c in "({[⟦") - (c in ")}]⟧")
+        if c == "×" and depth == 0:
+            pieces.append(body[start:at])
+            start = at + 1
+    pieces = [p.strip() for p in pieces + [body[start:]]]
+    pieces = [p[1:-1].strip() if p.startswith("(") and p.endswith(")") and sides(p) is None else p for p in pieces]
+    return name, [re.sub(r"^\(\w+ : ℕ\) → ", "", p) for p in pieces]  # what holds for every number holds for one
+
+
+def fields_of(kind):
+    """The fields of a struct of the tree."""
+    for path in STRUCTS.get(kind, []):
+        found = re.search(r"^pub struct " + kind + r" \{(.*?)^\}", text_of(path), re.M | re.S)
+        if found:
+            return set(re.findall(r"^\s*(?:pub )?(\w+):", re.sub(r"//[^\n]*", "", found.group(1)), re.M))
+        return {"0"}
+    return set()
+
+
+def shape_of(what, name):
+    """How a clause speaks of a thing lent, or, where `what` is empty, of the result that it calls `name`."""
+    return r"(?<![\w.«-])" + (rf"(?:«{what}»|{what}) \.exit" if what else re.escape(name)) + r"(?![\w-])"
+
+
+def fixed_by(f, what):
+    """By what two results agree in `what`, a thing lent or "" for the result, and on what else that rests: `equation`, a law, `unsaid`, or `open` where it is
+    spoken of and not fixed."""
+    spoken, laws, fields, rests, state = False, [], set(), set(), False
+    others = [w for w in ([""] if f.result else []) + f.lent() if w != what]
+    for clause in f.says:
+        name, conjuncts = parts(clause)
+        if not what and name == "_":
+            continue
+        shape = shape_of(what, name)
+        for c in (c for c in conjuncts if re.search(shape, c)):
+            spoken = True
+            laws += [w for w in LAWS if re.search(rf"(?<![\w-]){w}(?![\w-])", c) and source(*LAWS[w])]
+            both = sides(c)
+            for side, other in (both, both[::-1]) if both else ():
+                side = side[1:-1] if side.startswith("(") and side.endswith(")") else side
+                if re.search(shape, other):
+                    continue  # it is told by itself
+                on = {w for w in others if (w or name != "_") and re.search(shape_of(w, name), other)}
+                if re.fullmatch(rf"now \({shape}\)" if what else rf"(?:now )?{shape}", side):
+                    return EQUATION, on
+                field = re.fullmatch(rf"{shape} \.(\w+)", side) if not what else None
+                if field:
+                    fields.add(field.group(1))
+                    rests |= on
+                state = state or bool(re.match(r"(view|stateOf \(view) ", side) and re.search(shape, side))
+    if fields and fields >= fields_of(f.result):
+        return EQUATION, rests
+    if laws and laws[0] not in ("Tidy", "Kept"):
+        return laws[0], set()
+    # the state that words and marks hold is said whole, and that nothing stands beside it
+    beside = next((w for w in ("Tidy", "Kept") for c in f.says if re.search(rf"(?<![\w-]){w}(?![\w-])", c) and source(*LAWS[w])), None)
+    if state and beside:
+        return beside, set()
+    return ("open" if spoken else "unsaid"), set()
+
+
+def fixed(f):
+    """By what each thing is fixed. An equation that rests on what is not fixed, or on itself by way of another, fixes nothing."""
+    by = {what: fixed_by(f, what) for what in ([""] if f.result else []) + f.lent()}
+    sure = {what for what, (how, rests) in by.items() if how not in (EQUATION, "open", "unsaid")}
+    while True:
+        more = {what for what, (how, rests) in by.items() if how == EQUATION and what not in sure and rests <= sure}
+        if not more:
+            break
+        sure |= more
+    return {what: how if what in sure or how == "unsaid" else "open" for what, (how, rests) in by.items()}
+
+
+def outside():
+    """Every function that prints or reads, itself or through one that it calls, by crate and name."""
+    reach, found = {}, set()
+    for crate, own in FUNCTIONS.items():
+        below = [crate] + NEEDS[crate]
+        for f in own:
+            if re.search(r"\b(?:io|os|libc)::\w+\(", f.body):
+                found.add((crate, f.name))
+            reach[crate, f.name] = {(c, n) for n in re.findall(r"(\w+)\(", f.body) for c in below}
+    while True:
+        more = {k for k, calls in reach.items() if k not in found and calls & found}
+        if not more:
+            return found
+        found |= more
+
+
+def complain(what):
+    global wrong
+    wrong += 1
+    print(what)
+
+
+NEEDS = {line.split(":")[0].strip(): line.split(":")[1].split() for line in text_of("crates.txt").split("\n") if re.match(r"\w+:", line)}
+FILES = {c: sorted(os.path.relpath(p, HERE) for p in glob.glob(f"{HERE}/crates/{c}/src/*.rt")) for c in crates()}
+FUNCTIONS = {c: [f for p in FILES[c] for f in every_function(p)] for c in FILES}
+STRUCTS = {}
+for paths in FILES.values():
+    for path in paths:
+        for kind in re.findall(r"^pub struct (\w+)", text_of(path), re.M):
+            STRUCTS.setdefault(kind, []).append(path)
+
+rows, wrong, met, goes_out = [], 0, set(), outside()
+for crate in FILES:
+    for f in (f for f in FUNCTIONS[crate] if f.public):
+        met.add(f.where)
+        by = fixed(f)
+        named = lambda what: f"what it leaves in {what}" if what else "its result"
+        unsaid = [named(w) for w, b in by.items() if b == "unsaid"]
+        loose = [named(w) for w, b in by.items() if b == "open"]
+        listed = [name for name, table in (("OUTSIDE", OUTSIDE), ("LESS", LESS), ("OPEN", OPEN)) if f.where in table]
+        complete = by and not unsaid and not loose
+        if complete and listed:
+            complain(f"{f.path}: {f.where} is listed in {listed[0]} and states all: take it off the list")
+        if not by and f.says and listed:
+            complain(f"{f.path}: {f.where} is listed in {listed[0]} and states what it must")
+        if len(listed) > 1:
+            complain(f"{f.path}: {f.where} is listed in {' and '.join(listed)}")
+        if f.where in OUTSIDE and (crate, f.name) not in goes_out:
+            complain(f"{f.path}: {f.where} is said to print or read, and nothing that it calls does")
+        if f.where in OPEN and (unsaid or not f.says):
+            complain(f"{f.path}: {f.where} leaves unsaid {', '.join(unsaid) or 'everything'}: that is more than open")
+        if not listed:
+            if not f.says:
+                complain(f"{f.path}: {f.where} states nothing")
+            elif unsaid:
+                complain(f"{f.path}: {f.where} does not say {', '.join(unsaid)}")
+            elif loose:
+                complain(f"{f.path}: {f.where} leaves open {', '.join(loose)}")
+        words = sorted(set(re.findall(r"(?<![.\w-])([A-Za-z][\w′]*[A-Z]\w*|[A-Z]\w+|[a-z]+[A-Z]\w*)", " ".join(f.says))))
+        said = ", ".join(f"`{w}`" for w in words) if words else "an equation" if EQUATION in by.values() else "a bound only" if f.says else "nothing"
+        laws = []
+        for law in {b for b in by.values() if b in LAWS}:
+            name = LAWS[law][1]
+            kept = law == "Kept" and not any("Tidy" in c for c in f.asks)
+            laws.append(f"`{name}`" + (" where the workspace lent is tidy; of another, what stands beside the state is open" if kept else ""))
+        reason = OUTSIDE.get(f.where) or LESS.get(f.where) or (f.where in OPEN and "open: " + OPEN[f.where]) or ""
+        unique = "; ".join((["equation"] if EQUATION in by.values() else []) + sorted(laws) + ([reason] if reason else []))
+        rows.append(f"| `{f.where}` | `{f.path[len('crates/'):]}` | {len(f.asks) or ''} | {len(f.says) or ''} | {said} | {unique} |")
+for name in sorted((set(OUTSIDE) | set(LESS) | set(OPEN)) - met):
+    complain(f"tests/functions.py: there is no function {name}")
+
 page = """# Every public function
 
 Made by `tests/functions.py` from the sources: of each public function of a crate, the file in which its contract stands over its body, how much
-it asks of its caller (`requires`), how many statements it makes of its result and of everything lent (`ensures`), and the definitions that they
-cite. The functions that other programs call, `raptor` and `kiosk_c`, ask for nothing, but for the forms named `_checked`, which ask for tables that
-were checked.
+it asks of its caller (`requires`), how many statements it makes of its result and of everything lent (`ensures`), the definitions that they cite,
+and by what two results that meet them are equal. The functions that other programs call, `raptor` and `kiosk_c`, ask for nothing, but for the forms
+named `_checked`, which ask for tables that were checked.
 
-Two results that meet a statement are equal. Where it is an equation for the result and for each slice that may be written, that is so at once. Where
-it says the state that words and marks hold, with `Tidy` (nothing stands beside that state) or `Kept` (a tidy workspace stays tidy), two tidy
-workspaces of one state are equal word for word: `same-words` of `allocator/proofs/Same.antt`. For `Solved`, and so for all that is called from
-outside, it is `solved-unique` of `raptor/proofs/Unique.antt`. What is left open, or stated only as a bound, is said in the last column with the
-reason.
+The last column: *equation*, where the result and each slice that may be written is said to be equal to something; then two results are equal at once.
+`same-words` (`allocator/proofs/Same.antt`), where it says the state that words and marks hold and that they are tidy (nothing stands beside that
+state): two tidy workspaces of one state are equal word for word. `solved-unique`, `ran-unique` (`raptor/proofs/Unique.antt`), `faced-unique`
+(`kiosk_c/proofs/Unique.antt`) and `asked-unique` (`asking/proofs/Unique.antt`), where it is the record `Solved`, `Ran`, `Faced` or `Tells`. What prints
+or reads, states less, or is left open stands there with the reason; `tests/functions.py` has the lists, function by function, and refuses a name that
+stands there without need.
 
-| function | where | asks | states | by |
-|---|---|---|---|---|
+| function | where | asks | states | by | unique by |
+|---|---|---|---|---|---|
 """ + "\n".join(rows) + "\n"
 if sys.argv[1:] == ["check"]:
-    if open("docs/FUNCTIONS.md", encoding="utf-8").read() != page:
-        print("docs/FUNCTIONS.md is not what tests/functions.py writes")
-        wrong += 1
+    if text_of("docs/FUNCTIONS.md") != page:
+        complain("docs/FUNCTIONS.md is not what tests/functions.py writes")
 else:
-    open("docs/FUNCTIONS.md", "w", encoding="utf-8").write(page)
-print(f"{len(rows)} public functions, {wrong} wrong")
+    with open(os.path.join(HERE, "docs/FUNCTIONS.md"), "w", encoding="utf-8") as f:
+        f.write(page)
+print(f"{len(rows)} public functions, {len(OUTSIDE)} print or read, {len(LESS)} state less, {len(OPEN)} leave something open, {wrong} wrong")
 sys.exit(wrong > 0)

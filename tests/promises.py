@@ -1,13 +1,26 @@
 #!/usr/bin/env python3
-# docs/PROMISES.md held to the tree: every sentence of tests/sentences.txt has a row; every file, theorem, function and edit that a row names is
-# there; and each statement that is copied is the source's own text. With `write` the copies are made anew.
-import glob, os, re, sys
+# docs/PROMISES.md and docs/STATEMENTS.md held to the tree and to tests/sentences.txt. Every sentence has its row; every row cites what it must, and what it
+# cites is a theorem, a contract or a definition of the file that it names; a row of the three demands has a theorem or a contract, and an edit that
+# changes something; each copied statement is the source's own text, and each link leads to one; each hypothesis of a cited theorem has a witness; what
+# must be believed is listed whole. With `write` the copies, the links and the counts are made anew, and a name that moved to another file is followed.
+import glob, hashlib, os, re, sys
 
-os.chdir(os.path.join(os.path.dirname(os.path.abspath(__file__)), ".."))
-PAGE = "docs/PROMISES.md"
-page = open(PAGE, encoding="utf-8").read()
-crates = {os.path.basename(c) for c in glob.glob("crates/*")}
-edits = {e[len("crates/") : -5].replace("/must-fail", "") for e in glob.glob("crates/*/must-fail/*.edit")}
+sys.dont_write_bytecode = True  # no folder of compiled scripts in the tree
+from believed import counted, kit
+from reading import HERE, asked_and_said, crates, edits, source, text_of, there
+
+PAGE, COPIES, LIST = "docs/PROMISES.md", "docs/STATEMENTS.md", "tests/sentences.txt"
+# The sum of the sentences that are others' (tests/sentences.txt): to leave one out, one has to change this line as well. `tests/promises.py sum` tells it.
+SUM = "ba136ed764470bc4"
+# Document 01, where it is at hand, and the parts of it of which no sentence may be left out: from .. up to ..
+DOCUMENT = os.path.join(HERE, "../shared/docs/01-scope.md")
+WHOLE = [("The workspace is untouched on", "number it is testing."), ("The equality of demand 2 covers", "with one span."), ("Each public function states", "run and compared.")]
+# What a theorem may suppose of tables, orders and queries: where one that is cited does, a witness is wanted.
+SUPPOSED = ["Accepted", "Laid", "Listed", "Timed", "Ordered", "Measured", "Sound", "Narrow", "Asked", "Fair", "BothWays"]
+MADE = "<!-- From here on made by tests/promises.py: what the rows cite beside the above, row by row. -->"
+TOKEN = re.compile(r"\[`([^`]+)`\]\(([^)]*)\)|`([^`]+)`")
+BLOCK = re.compile(r'^<a id="[^"]*"></a>\[`([^`]+)`\]\([^)]*\) `([^`]+)`\n\n```text\n(?:(?!```).*\n)*```$', re.M)
+writing = sys.argv[1:] == ["write"]
 wrong = 0
 
 
@@ -17,142 +30,295 @@ def complain(what, where=PAGE):
     print(f"{where}: {what}")
 
 
-def indent(line):
-    return len(line) - len(line.lstrip())
+def anchor(path, name):
+    return "-".join([path.split("/")[0], os.path.basename(path).split(".")[0], name])
 
 
-def to_end(lines, at):
-    """The line at `at` and those below it that stand further in."""
-    end = at + 1
-    while end < len(lines) and lines[end].strip() and indent(lines[end]) > indent(lines[at]):
-        end += 1
-    return lines[at:end]
+def block(path, name):
+    """A statement as docs/STATEMENTS.md has it: what the modules around it take, and its own text."""
+    kind, around, text = source(path, name)
+    return "\n".join([f'<a id="{anchor(path, name)}"></a>[`{path}`](../crates/{path}) `{name}`', "", "```text", *around, text, "```"])
 
 
-def contract(text, name):
-    """A function's head: its parameters, what it asks and what it states."""
-    found = re.search(r"^pub (?:extern \"C\" )?fn " + name + r"\(.*?(?=^\{)", text, re.M | re.S)
-    return found and found.group(0).rstrip()
+def is_path(token):
+    return "/" in token
 
 
-def to_blank(lines, at):
-    """The lines from `at` to the next empty one."""
-    end = at
-    while end < len(lines) and lines[end].strip():
-        end += 1
-    return lines[at:end]
+def found_path(path):
+    return [p for p in glob.glob(os.path.join(HERE, "crates", path)) + glob.glob(os.path.join(HERE, path)) if os.path.exists(p)]
 
 
-def out(lines):
-    """The lines without the depth of the first."""
-    return [line[indent(lines[0]) :] for line in lines]
+def cited(cell):
+    """The names of a cell, each with the file before it and where its link leads (None: it is no link)."""
+    path, names = None, []
+    for m in TOKEN.finditer(cell):
+        token = m.group(1) or m.group(3)
+        if is_path(token):
+            path = token
+        else:
+            names.append((path, token, m.group(2)))
+    return names
 
 
-def statement(text, name):
-    """A theorem's type, or a definition whole; and what the modules around it take, outermost first."""
-    lines = text.split("\n")
-    for at, line in enumerate(lines):
-        if not re.match(r"\s*(abbrev |unfoldable )?pub (record |data )?" + re.escape(name) + r"(?![\w′-])", line):
-            continue
-        own = (to_blank if re.match(r"\s*(abbrev|unfoldable) ", line) else to_end)(lines, at)
-        around, inner = [], indent(line)
-        for up in range(at - 1, -1, -1):
-            if lines[up].strip() and indent(lines[up]) < inner:
-                inner = indent(lines[up])
-                if lines[up].lstrip().startswith("module _"):
-                    head = [lines[up]]
-                    while not head[-1].rstrip().endswith("where"):
-                        head.append(lines[up + len(head)])
-                    around.insert(0, "\n".join(out(head)))
-        return around, "\n".join(out(own))
+def moved(path, name):
+    """The one file to which a name moved: of its own crate, or of the definitions of any."""
+    for part in (f"{path.split('/')[0]}/specs", f"{path.split('/')[0]}/proofs", "*/specs"):
+        files = [os.path.relpath(p, os.path.join(HERE, "crates")) for p in glob.glob(f"{HERE}/crates/{part}/**/*.antt", recursive=True)]
+        files = [p for p in files if source(p, name)]
+        if len(files) == 1:
+            return files[0]
     return None
 
 
-def source(path, name):
-    files = [f for f in (f"crates/{path}", path) if os.path.isfile(f)]
-    if not files:
-        return None
-    text = open(files[0], encoding="utf-8").read()
-    if path.endswith(".antt"):
-        return statement(text, name)
-    head = contract(text, name)
-    return head and ([], head)
+def relinked(cell):
+    """The cell with each name a link to its copy, and a name that moved under its new file."""
+    out, at, path, shown = "", 0, None, None
+    for m in TOKEN.finditer(cell):
+        out += cell[at : m.start()]
+        at = m.end()
+        token = m.group(1) or m.group(3)
+        if is_path(token):
+            path = shown = token
+            out += f"`{token}`"
+            continue
+        own = path
+        if path and path.endswith(".antt") and not source(path, token) and moved(path, token):
+            own = moved(path, token)
+            print(f"{token} is now in {own}")
+        if own != shown and own:
+            out += f"`{own}` "
+            shown = own
+        out += f"[`{token}`]({os.path.basename(COPIES)}#{anchor(own, token)})" if own and source(own, token) else f"`{token}`"
+    return re.sub(r"`[^`]+\.antt` (?=`[^`]+\.antt`)", "", out + cell[at:])
 
 
-# The copied statements: a block whose first line names the file and the theorem. What all theorems of a file take is shown once.
-copied, shown = set(), set()
+def rows_of(page):
+    """The rows with a number: number, cells, line."""
+    for line in page.split("\n"):
+        cells = [c.strip() for c in line.strip().strip("|").split(" | ")]
+        if line.startswith("|") and re.match(r"\d+\.\d+$", cells[0]):
+            yield cells[0], cells[1:], line
 
 
-def copy(block):
-    path, name = block.group(1), block.group(2)
-    own = source(path, name)
+def promised(page):
+    """The statements that the rows of the three demands cite."""
+    return tuple((p, n) for number, cells, line in rows_of(page) if int(number.split(".")[0]) <= 3 for p, n, link in cited(cells[1]) if p)
+
+
+def section(page, title):
+    found = re.search(rf"^## {re.escape(title)}\n(.*?)(?=^## |\Z)", page, re.M | re.S)
+    return found.group(1) if found else ""
+
+
+def table(text):
+    """The rows of a section's table, without its head."""
+    lines = [[c.strip() for c in l.strip().strip("|").split(" | ")] for l in text.split("\n") if l.startswith("|")]
+    return lines[2:]
+
+
+# ==== the pages made anew
+page, copies, listed = text_of(PAGE), text_of(COPIES), text_of(LIST)
+if writing:
+    lines = []
+    for line in page.split("\n"):
+        if re.match(r"\| \d+\.\d+ \|", line):
+            cells = line.split(" | ")
+            cells[2] = relinked(cells[2])
+            line = " | ".join(cells)
+        lines.append(line)
+    page = "\n".join(lines)
+    supposed = section(page, "What the theorems suppose")
+    page = page.replace(supposed, "\n".join(relinked(l) if l.startswith("| `") else l for l in supposed.split("\n")))
+    page = re.sub(r"(<!-- counted -->\n).*?(<!-- end -->)", lambda m: m.group(1) + counted(promised(page)) + m.group(2), page, flags=re.S)
+    page = re.sub(r"(<!-- of the kit -->\n).*?(<!-- end -->)", lambda m: m.group(1) + kit(promised(page)) + m.group(2), page, flags=re.S)
+
+    def again(m):
+        path, name = m.group(1), m.group(2)
+        if not source(path, name) and moved(path, name):
+            path = moved(path, name)
+        return block(path, name) if source(path, name) else m.group(0)
+
+    hand = BLOCK.sub(again, copies.split(MADE)[0]).rstrip()
+    have = {(m.group(1), m.group(2)) for m in BLOCK.finditer(hand)}
+    made = []
+    for number, cells, line in rows_of(page):
+        new = [(p, n) for p, n, link in cited(cells[1]) if p and source(p, n) and (p, n) not in have]
+        if new:
+            have |= set(new)
+            made += [f"**{number}** {cells[0]}", *(block(p, n) for p, n in dict.fromkeys(new))]
+    new = [(p, n) for cells in table(section(page, "What the theorems suppose")) for c in cells[1:] for p, n, link in cited(c) if p and source(p, n) and (p, n) not in have]
+    if new:
+        made += ["**What the theorems suppose**: witnesses.", *(block(p, n) for p, n in dict.fromkeys(new))]
+    copies = hand + "\n\n" + MADE + "\n\n## The rest, row by row\n\n" + "\n\n".join(made) + "\n"
+    for path, names in re.findall(r"^    says (\S+) (.*)$", listed, re.M):
+        for name in names.split(", "):
+            if path.endswith(".antt") and not source(path, name) and moved(path, name):
+                old = f"    says {path} {names}\n"
+                rest = [n for n in names.split(", ") if n != name]
+                listed = listed.replace(old, (f"    says {path} {', '.join(rest)}\n" if rest else "") + f"    says {moved(path, name)} {name}\n")
+                names = ", ".join(rest)
+    for file, text in ((PAGE, page), (COPIES, copies), (LIST, listed)):
+        with open(os.path.join(HERE, file), "w", encoding="utf-8") as f:
+            f.write(text)
+
+# ==== the copies
+copied = set()
+for m in BLOCK.finditer(copies):
+    path, name = m.group(1), m.group(2)
+    if (path, name) in copied:
+        complain(f"{path} {name} is copied twice", COPIES)
     copied.add((path, name))
-    if own is None:
-        complain(f"nothing to copy for {path} {name}")
-        return block.group(0)
-    around, text = own
-    heads = around[1:] if around and (path, around[0]) in shown else around
-    shown.update((path, head) for head in around[:1])
-    new = "\n".join([f"```text {path} {name}", *heads, text, "```"])
-    if new != block.group(0) and sys.argv[1:] != ["write"]:
-        complain(f"the copy of {name} is not the text of {path}")
-    return new
+    if source(path, name) is None:
+        complain(f"nothing to copy for {path} {name}", COPIES)
+    elif m.group(0) != block(path, name):
+        complain(f"the copy of {name} is not the text of {path}", COPIES)
+if copies.count("```text\n") != len(copied):
+    complain(f"{copies.count('```text') - len(copied)} blocks do not say which statement they copy", COPIES)
+ids = re.findall(r'<a id="([^"]*)">', copies)
+for one in sorted({i for i in ids if ids.count(i) > 1}):
+    complain(f"two statements have the name {one}", COPIES)
 
-
-BLOCK = re.compile(r"^```text (\S+) (\S+)\n(?:(?!```).*\n)*```$", re.M)
-whole = BLOCK.sub(copy, page)
-if sys.argv[1:] == ["write"]:
-    open(PAGE, "w", encoding="utf-8").write(whole)
-
-# The rows
-section, rows, said = "", 0, ""
-for line in page.split("\n"):
-    if line.startswith("## "):
-        section = line[3:]
-    if not line.startswith("|") or line.startswith(("|---", "| no. |", "| sentence |")):
+# ==== the rows
+changes, rows = edits(), {}
+for name, fault in changes.items():
+    if fault:
+        complain(f"the edit {name}: {fault}", "crates")
+for number, cells, line in rows_of(page):
+    if number in rows:
+        complain(f"two rows are {number}")
+    rows[number] = cells
+    demand = int(number.split(".")[0])
+    if len(cells) < 3 or not cells[1]:
+        complain(f"nothing says {number}")
         continue
-    cells = [c.strip() for c in line.strip().strip("|").split(" | ")]
-    numbered = bool(re.match(r"\d+\.\d+$", cells[0]))
-    if numbered:
-        cells = cells[1:]
-    rows += 1
-    said += " " + cells[0]
-    if len(cells) < 2 or not cells[1]:
-        complain(f"nothing says this sentence: {line[:100]}")
-        continue
-    if numbered and (len(cells) < 4 or not cells[3]):
-        complain(f"no wrong program is named: {line[:100]}")
-    text, path = "", None
-    for name in re.findall(r"`([^`]+)`", cells[1]):
-        if "/" in name:
-            path = name.split()[0]
-            found = [f for f in glob.glob("crates/" + path) + glob.glob(path) if os.path.exists(f)]
-            if not found:
-                complain(f"no file {path}: {line[:100]}")
-            text += "".join(open(f, encoding="utf-8").read() for f in found if os.path.isfile(f))
-        elif name not in crates and not re.search(r"(?<![\w-])" + re.escape(name) + r"(?![\w-])", text):
-            complain(f"{name} stands in no file of its row: {line[:100]}")
-        elif numbered and path and path.endswith((".antt", ".rt")) and source(path, name) and (path, name) not in copied:
-            complain(f"the statement of {path} {name} is not copied")
-    for name in re.findall(r"`([^`]+)`", cells[2] if len(cells) > 2 else ""):
-        if name not in edits:
-            complain(f"no edit {name}")
+    for token in re.findall(r"`([^`]+)`", TOKEN.sub(lambda m: "" if m.group(1) else m.group(0), cells[1])):
+        if is_path(token) and not found_path(token):
+            complain(f"{number}: no file {token}")
+    kinds = set()
+    for path, name, link in cited(cells[1]):
+        own = path and source(path, name)
+        if not own:
+            complain(f"{number}: {name} is no theorem, contract or definition of {path}")
+            continue
+        kinds.add(own[0])
+        if (path, name) not in copied:
+            complain(f"{number}: the statement of {path} {name} is not copied")
+        if link != f"{os.path.basename(COPIES)}#{anchor(path, name)}" or anchor(path, name) not in ids:
+            complain(f"{number}: {name} does not lead to its statement")
+    named = re.findall(r"`([^`]+)`", cells[2])
+    for name in named:
+        if name not in changes:
+            complain(f"{number}: no edit {name}")
+    if demand <= 3 and not kinds & {"theorem", "contract"}:
+        complain(f"{number} has no theorem and no contract")
+    if demand <= 3 and not named:
+        complain(f"{number} has no edit")
+    if demand <= 4 and (len(cells) < 4 or not cells[3]):
+        complain(f"{number} names no wrong program")
 
-# The sentences
-flat = " ".join(said.split())
-sentences = [s.strip() for s in open("tests/sentences.txt", encoding="utf-8") if s.strip() and not s.startswith("#")]
-for s in sentences:
-    if f"\u201c{s}\u201d" not in flat:
-        complain(f"no row has the sentence: {s}")
+# ==== the sentences, and what each row must have
+origin, sentences, must = "", [], {}
+for line in listed.split("\n"):
+    if line.startswith("@ "):
+        origin = line[2:].strip()
+    elif re.match(r"\d+\.\d+ ", line):
+        number, words = line.split(" ", 1)
+        sentences.append((origin, number, words.strip()))
+        must.setdefault(number, [])
+    elif line.startswith("    says "):
+        path, names = line[9:].split(" ", 1)
+        must[number] += [(path, n.strip()) for n in names.split(", ")]
+    elif line.startswith("    edits "):
+        must[number] += [("edit", n.strip()) for n in line[10:].split(", ")]
+    elif line.strip() and not line.startswith("#"):
+        complain(f"what is this: {line}", LIST)
+for origin, number, words in sentences:
+    flat = " ".join(rows.get(number, [""])[0].split())
+    if origin == "ours" and not flat.startswith(words) or origin != "ours" and f"\u201c{words}\u201d" not in flat:
+        complain(f"row {number} has not the sentence: {words}")
+for number, wanted in must.items():
+    if number in rows:
+        has = {(p, n) for p, n, link in cited(rows[number][1])} | {("edit", n) for n in re.findall(r"`([^`]+)`", rows[number][2])}
+        for path, name in wanted:
+            if (path, name) not in has:
+                complain(f"row {number} does not have {path} {name}")
+for number in sorted(set(rows) - set(must)):
+    complain(f"row {number} stands in no line of {LIST}")
+if sys.argv[1:2] == ["row"]:  # what the list would have to say of a row, to be read before it is taken over
+    for path in dict.fromkeys(p for p, n, link in cited(rows[sys.argv[2]][1])):
+        print(f"    says {path} {', '.join(n for p, n, link in cited(rows[sys.argv[2]][1]) if p == path)}")
+    print("    edits " + ", ".join(re.findall(r"`([^`]+)`", rows[sys.argv[2]][2])))
+total = hashlib.sha256("\n".join(f"{o} {n} {w}" for o, n, w in sentences if o != "ours").encode()).hexdigest()[:16]
+if sys.argv[1:] == ["sum"]:
+    print(total)
+elif total != SUM:
+    complain(f"the sentences are not those that were agreed: their sum is {total}, not {SUM}", LIST)
+if os.path.isfile(DOCUMENT):
+    document = " ".join(open(DOCUMENT, encoding="utf-8").read().split())
+    for origin, number, words in sentences:
+        if origin == "document 01" and words not in document:
+            complain(f"not document 01's words: {words}", LIST)
+    for start, end in WHOLE:
+        rest = document[document.index(start) : document.index(end) + len(end)]
+        for origin, number, words in sorted(sentences, key=lambda s: -len(s[2])):
+            rest = rest.replace(words, "")
+        if re.search(r"\w", rest):
+            complain(f"left out of document 01: {' '.join(rest.split())}", LIST)
 
-# The map of the crates in README.md
-readme = open("README.md", encoding="utf-8").read()
+# ==== what the theorems suppose
+shown = {}
+for cells in table(section(page, "What the theorems suppose")):
+    words = re.findall(r"`(\w+)`", cells[0])
+    for path, name, link in cited(cells[1]):
+        for word in words:
+            shown.setdefault((path, name), set()).add(word)
+        own = path and source(path, name)
+        if not own:
+            complain(f"no theorem {path} {name} that supposes {words}")
+        elif own[0] == "theorem" and not any(re.search(rf"(?<![\w-]){w}(?![\w-])", asked_and_said(own[1], own[2])[0]) for w in words):
+            complain(f"{name} does not suppose {' or '.join(words)}")
+    witnesses = cited(cells[2])
+    if not witnesses:
+        complain(f"no witness for {' '.join(words)}")
+    for path, name, link in witnesses:
+        own = path and source(path, name)
+        if not own or own[0] not in ("theorem", "contract"):
+            complain(f"the witness {name} is no theorem of {path}")
+        elif own[0] == "theorem":
+            asks, says = asked_and_said(own[1], own[2])
+            if set(words) & set(SUPPOSED) and not any(re.search(rf"(?<![\w-]){w}(?![\w-])", says) for w in words):
+                complain(f"{name} is no witness: it does not conclude {' or '.join(words)}")
+            if any(re.search(rf"(?<![\w-]){w}(?![\w-])", asks) for w in SUPPOSED):
+                complain(f"{name} is no witness: it supposes something itself")
+    for path, name, link in cited(cells[1]) + witnesses:
+        if (path, name) not in copied or link != f"{os.path.basename(COPIES)}#{anchor(path, name)}":
+            complain(f"{name}, of what the theorems suppose, does not lead to its statement")
+for path, name in sorted({(p, n) for cells in rows.values() for p, n, link in cited(cells[1]) if p and p.endswith(".antt")}):
+    own = source(path, name)
+    if own and own[0] == "theorem":
+        asks, says = asked_and_said(own[1], own[2])
+        for word in SUPPOSED:
+            if re.search(rf"(?<![\w-]){word}(?![\w-])", asks) and word not in shown.get((path, name), ()):
+                complain(f"{name} supposes {word}, and no witness is named")
+
+# ==== what must be believed
+was = re.search(r"<!-- counted -->\n(.*?)<!-- end -->", page, re.S)
+if not was or was.group(1) != counted(promised(page)):
+    complain("what must be believed is not what is counted: tests/promises.py write")
+if was and "| ? |" in was.group(1):
+    complain("tests/believed.py does not say what a folder of definitions is about")
+was = re.search(r"<!-- of the kit -->\n(.*?)<!-- end -->", page, re.S)
+if not was or was.group(1) != kit(promised(page)):
+    complain("what is taken from the kit is not what the definitions use: tests/promises.py write")
+
+# ==== the map of the crates in README.md
+readme, own = text_of("README.md"), set(crates())
 for line in readme.split("\n"):
     if line.startswith("| `"):
         for name in re.findall(r"`([^`]+)`", line.split(" | ")[0]):
-            if name not in crates:
+            if name not in own:
                 complain(f"no crate {name}", "README.md")
-for name in sorted(crates - set(re.findall(r"`([^`]+)`", readme))):
+for name in sorted(own - set(re.findall(r"`([^`]+)`", readme))):
     complain(f"the map leaves out {name}", "README.md")
-print(f"{len(sentences)} sentences, {rows} promises, {len(copied)} statements copied, {wrong} wrong")
+print(f"{len(sentences)} sentences, {len(rows)} promises, {len(copied)} statements copied, {wrong} wrong")
 sys.exit(wrong > 0)

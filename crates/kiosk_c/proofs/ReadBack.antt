@@ -1,27 +1,22 @@
 -- "Journeys are written to bytes and read back unchanged", for a caller who walks the bytes by `kiosk_leg`.
 use Prim.Native.Nat.{ℕ, zero, suc}
-use mathlib.Core.Path.{_≡_, refl, sym, ap, _∙_}
-use mathlib.Core.Bool.{Bool}
-use mathlib.Core.List.{List, [], _∷_}
+use mathlib.Core.Path.{_≡_, refl, sym, _∙_}
+use mathlib.Core.List.{List}
 use native.Mathlib.Omega.{arith}
 use native.Mathlib.Decide.{decLt}
-use lib.Dec.{leb, eqb}
 use lib.ListN.{length, getD, take}
 use borrow.Author.Tests.{ne-eqb}
-use Rattle.base.specs.Choice.{cond-elim}
 use Rattle.shared.specs.declared.Time.{Time}
 use Rattle.model.specs.declared.Answer.{Answer}
-use Rattle.model.specs.declared.Answer.the-variants.{Found, Refused, NoRouteFound, FailedToBuildRoute, TooLong}
+use Rattle.model.specs.declared.Answer.the-variants.{Found}
 use Rattle.model.specs.declared.Leg.{Leg}
 use Rattle.model.specs.declared.Query.{Query}
-use Rattle.model.specs.declared.Target.{Target}
-use Rattle.model.specs.Tables.{Net}
-use Rattle.model.specs.Answer.{lowest, searched, legsOf, replyTo, reply, unless, answer, given}
-use Rattle.model.specs.Bytes.{legs, read, sizeOf}
+use Rattle.model.specs.Answer.{legsOf, given}
+use Rattle.model.specs.Bytes.{legs, read}
 use Rattle.repository.specs.NetOf.{netOf}
 use Rattle.repository.specs.Checked.{checkOf}
-use Rattle.raptor.specs.Solved.{sized, Solved}
-use Rattle.raptor.proofs.Promises.{reads-back}
+use Rattle.raptor.specs.Solved.{Solved}
+use Rattle.raptor.proofs.Promises.{number-0, reads-back}
 use Rattle.journey.specs.Reading.{legFrom}
 use Rattle.journey.specs.Legs.{LegsFrom, over as no-more, next as one-more}
 use Rattle.journey.proofs.Legs.{legs-from}
@@ -39,37 +34,6 @@ told {b} {at} (one-more g e r) =
 -- bytes that are read as the legs gs are walked as gs
 pub face-legs-from : (b : List ℕ) (gs : List Leg) → read b ≡ legs gs → FaceLegsFrom b 0 gs
 face-legs-from b gs e = told (legs-from b gs e)
-
--- ---- number 0 is a journey
--- what a search replies is no refusal
-unrefused : (room : ℕ) (g : Target) (gs : List Leg) (x : ℕ) → reply room g gs ≡ Refused x → ⊥
-unfolding reply replyTo
-unrefused room g gs x =
-    cond-elim (λ a. a ≡ Refused x → ⊥) (eqb (g .time .0) 0) _ _ (λ b e. let z : _≡_ {A = ℕ} 0 1 = cc in omega arith) (λ b. to gs)
-  where
-    to : (gs : List Leg) → replyTo room g gs ≡ Refused x → ⊥
-    to [] = λ e. let z : _≡_ {A = ℕ} 0 1 = cc in omega arith
-    to (v ∷ vs) =
-        cond-elim (λ a. a ≡ Refused x → ⊥) (leb (sizeOf (v ∷ vs)) room) _ _ (λ b e. let z : _≡_ {A = ℕ} 0 1 = cc in omega arith)
-        (λ b e. let z : _≡_ {A = ℕ} 0 1 = cc in omega arith)
-
-module _ (fault : ℕ) (sized : Bool) (n : Net) (q : Query) (room : ℕ) where
-  found : (x : Answer) → x ≡ answer fault sized n q room → (given x) .number ≡ 0
-      → (time : Time) × (s : ℕ) × (k : ℕ) × (z : ℕ) × (x ≡ Found time s k z)
-  unfolding given answer unless
-  found (Found time s k z) e f = (time, s, k, z, refl)
-  found (Refused x) e f = absurd (go (lowest fault sized n q) refl)
-    where
-      go : (k : ℕ) → lowest fault sized n q ≡ k → ⊥
-      go zero g =
-          unrefused room ((searched n q) .times .target) (legsOf n q) x
-          (sym (e ∙ ap (unless Refused (reply room ((searched n q) .times .target) (legsOf n q))) g))
-      go (suc k) g =
-          let h : Refused x ≡ Refused (suc k) = e ∙ ap (unless Refused (reply room ((searched n q) .times .target) (legsOf n q))) g in
-          let i : x ≡ suc k = cc in omega arith
-  found NoRouteFound e f = absurd (omega arith)
-  found FailedToBuildRoute e f = absurd (omega arith)
-  found (TooLong z) e f = absurd (omega arith)
 
 -- an answer that is too short for its words is never told by 0
 short-some : (fault : ℕ) → shortNumber fault ≡ 0 → ⊥
@@ -91,6 +55,5 @@ module _ (t : List ℕ) (q : Query) (w y p j a : List ℕ) where
         | yes h ↦ absurd (short-some (checkOf t) (sym (f .short h .0) ∙ e))
         | no h ↦
             let x = f .solved (omega arith) in
-            let g = found (checkOf t) (sized (netOf t) w y p) (netOf t) q (length j) (x .0) (x .1 .answers) (sym (x .2) ∙ e) in
-            walked (x .1) (x .3) (g .4)
+            walked (x .1) (x .3) (number-0 t q w y p j (x .1) (sym (x .2) ∙ e))
       ]

@@ -1,0 +1,280 @@
+#!/usr/bin/env python3
+# A test of the tests: a copy of the tree is damaged in each way in which a page could come to say more than is so, and tests/promises.py,
+# tests/functions.py or tools/letter.py must complain. Where a page is made from the tree it is made anew first, as a hurried hand would.
+import concurrent.futures, os, re, shutil, subprocess, sys, tempfile
+
+HERE = os.path.abspath(os.path.join(os.path.dirname(os.path.abspath(__file__)), ".."))
+PAGE, COPIES, LIST, LISTS, LETTER = "docs/PROMISES.md", "docs/STATEMENTS.md", "tests/sentences.txt", "tests/functions.py", "docs/LETTER.md"
+PROMISES, FUNCTIONS, SIGNED = ["tests/promises.py"], ["tests/functions.py", "check"], ["tools/letter.py", "check"]
+WORKERS = 2
+room, touched = None, {}
+
+
+def read(path):
+    with open(os.path.join(room, path), encoding="utf-8") as f:
+        return f.read()
+
+
+def write(path, text):
+    """Writes a file of the copy; what it was is kept, to be put back."""
+    if path not in touched:
+        touched[path] = read(path) if os.path.exists(os.path.join(room, path)) else None
+    with open(os.path.join(room, path), "w", encoding="utf-8") as f:
+        f.write(text)
+
+
+def put_back():
+    for path, text in touched.items():
+        if text is None:
+            os.remove(os.path.join(room, path))
+        else:
+            write(path, text)
+    touched.clear()
+
+
+def sub(path, old, new):
+    text = read(path)
+    if old not in text:
+        raise SystemExit(f"tests/mutations.py: {path} has no longer: {old}")
+    write(path, text.replace(old, new, 1))
+
+
+def row(number):
+    found = re.search(rf"^\| {re.escape(number)} \| .*$", read(PAGE), re.M)
+    if not found:
+        raise SystemExit(f"tests/mutations.py: there is no row {number}")
+    return found.group(0)
+
+
+def with_cell(number, at, new):
+    """The row with another text in one cell: 1 the sentence, 2 what says it, 3 the edits, 4 the wrong program."""
+    cells = row(number).strip().strip("|").strip().split(" | ")
+    cells[at] = new(cells[at]) if callable(new) else new
+    return "| " + " | ".join(cells) + " |"
+
+
+def set_cell(number, at, new):
+    sub(PAGE, row(number), with_cell(number, at, new))
+
+
+def cell(number, at):
+    return row(number).strip().strip("|").strip().split(" | ")[at]
+
+
+def exchange(one, other, at):
+    a, b = cell(one, at), cell(other, at)
+    set_cell(one, at, b)
+    set_cell(other, at, a)
+
+
+def entry(number):
+    """The lines of a row in tests/sentences.txt."""
+    return re.search(rf"^{re.escape(number)} .*\n(?:    .*\n)*", read(LIST), re.M).group(0)
+
+
+def without_citation(number, name):
+    """The row, and its line in tests/sentences.txt, without one name."""
+    set_cell(number, 2, lambda c: re.sub(rf"(, )?\[`{name}`\]\([^)]*\)", "", c))
+    write(LIST, "".join(re.sub(rf"(, {name}|{name}, )(?![\w-])", "", l) for l in read(LIST).splitlines(True)))
+
+
+def block_of(name):
+    found = re.search(rf'^<a id="[^"]*"></a>\[`[^`]+`\]\([^)]*\) `{name}`\n\n```text\n(?:(?!```).*\n)*```\n', read(COPIES), re.M)
+    return found.group(0)
+
+
+def edit_of(number):
+    """The file of the first edit that a row names."""
+    crate, name = re.findall(r"`([^`]+)`", cell(number, 3))[0].split("/")
+    return f"crates/{crate}/must-fail/{name}.edit"
+
+
+def theorem_gone(file, name):
+    text = read(file)
+    found = re.search(rf"^( *)pub {name} :.*\n(?:\1 +.*\n)*(?:\1(?:unfolding|{name}) .*\n(?:\1 +.*\n)*)*", text, re.M)
+    write(file, text.replace(found.group(0), ""))
+
+
+def head_of(file, name):
+    text = read(file)
+    start = re.search(rf"^pub (?:extern \"C\" )?fn {name}\(", text, re.M).start()
+    return text[start : text.index("\n{\n", start)]
+
+
+def added(file, code):
+    return lambda: write(file, read(file) + "\n" + code)
+
+
+def listed(table, name, reason):
+    return lambda: sub(LISTS, f"\n{table} = {{", f'\n{table} = {{\n    "{name}": "{reason}",\n')
+
+
+LIB, PROMISED = "crates/allocator/src/lib.rt", "crates/raptor/proofs/Promises.antt"
+
+
+def dropped_clause():
+    """A function that may write a slice and says two things, without the one about the slice."""
+    head = head_of("crates/kiosk_c/src/legs.rt", "kiosk_read")
+    sub("crates/kiosk_c/src/legs.rt", head, re.sub(r"\n    ensures \{ λ _\..*?⌝ \}", "", head, flags=re.S))
+
+
+def checked_says(new):
+    """The check of the tables with another statement of its result."""
+
+    def damage():
+        head = head_of("crates/repository_check/src/lib.rt", "check")
+        sub("crates/repository_check/src/lib.rt", head, re.sub(r"⌜ (r ≡ .*?) ⌝", lambda m: f"⌜ {new.replace('SAID', m.group(1))} ⌝", head))
+
+    return damage
+
+
+def nothing_of_the_result():
+    head = head_of("crates/repository_check/src/lib.rt", "check")
+    sub("crates/repository_check/src/lib.rt", head, re.sub(r"λ r\. ⌜ r ≡ .*? ⌝", "λ _. ⌜ 0 ≡ 0 ⌝", head))
+
+
+def sentence_and_row_gone():
+    sub(PAGE, row("1.7") + "\n", "")
+    sub(LIST, entry("1.7"), "")
+
+
+def sentence_changed():
+    words = "On 0 bytes past the journey stay unchanged."
+    set_cell("1.7", 1, lambda c: c.replace(words, "On 0 bytes past the journey may change."))
+    sub(LIST, words, "On 0 bytes past the journey may change.")
+
+
+def definition_only():
+    set_cell("1.4", 2, "`model/specs/Answer.antt` `given`")
+    sub(LIST, entry("1.4"), re.sub(r"    says .*", "    says model/specs/Answer.antt given", entry("1.4")))
+
+
+def theorem_and_block_gone():
+    theorem_gone(PROMISED, "chosen-round")
+    sub(COPIES, block_of("chosen-round"), "")
+    set_cell("3.8", 2, lambda c: re.sub(r", \[`chosen-round`\]\([^)]*\)", "", c))
+
+
+def row_without_its_only_theorem():
+    theorem_gone(PROMISED, "past-unchanged")
+    sub(COPIES, block_of("past-unchanged"), "")
+    set_cell("1.7", 2, "the code")
+    sub(LIST, entry("1.7"), re.sub(r"    says .*\n", "", entry("1.7")))
+
+
+def new_hypothesis():
+    sub(PROMISED, "pub tables-refused : (k : ℕ)", "pub tables-refused : Accepted t → (k : ℕ)")
+
+
+def witness_that_is_none():
+    supposed = next(l for l in read(PAGE).split("\n") if l.startswith("| `Sound`"))
+    sub(PAGE, supposed, supposed[: supposed.rindex(" | ")] + " | `repository/proofs/Sound.antt` `accepted-sound` |")
+
+
+def witness_row_gone():
+    sub(PAGE, next(l for l in read(PAGE).split("\n") if l.startswith("| `Fair`")) + "\n", "")
+
+
+def believed_unlisted():
+    file = "crates/model/specs/Spans.antt"
+    sub(file, "\nuse ", "\nuse Rattle.repository.specs.Rows.{word}\nuse ")
+
+
+# what is done; whether the pages are made anew after it; the test that must complain; what it must say
+MUTATIONS = [
+    ("a public function that returns a slice and states nothing", added(LIB, "pub fn part(words: &[u32]) -> &[u32] {\n    words\n}\n"), True, FUNCTIONS, "allocator::part states nothing"),
+    ("a public function that returns an array and states nothing", added(LIB, "pub fn pair() -> [u32; 2] {\n    [0, 0]\n}\n"), True, FUNCTIONS, "allocator::pair states nothing"),
+    ("a public method that states nothing", added(LIB, "impl Parent {\n    pub fn first(&self) -> u32 {\n        0\n    }\n}\n"), True, FUNCTIONS, "allocator::Parent::first states nothing"),
+    ("a public function for C that states nothing", added("crates/kiosk_c/src/lib.rt", '#[no_mangle]\npub extern "C" fn kiosk_more() -> u32 {\n    0\n}\n'), True, FUNCTIONS, "kiosk_c::kiosk_more states nothing"),
+    *(
+        (f"one in {where}", added(f"crates/{where.replace('::', '/src/', 1)}.rt", "pub fn more() -> u32 {\n    0\n}\n"), True, FUNCTIONS, f"{where.removesuffix('::lib')}::more states nothing")
+        for where in ("asking::lib", "print::lib", "lines::lib", "replay::probe", "kiosk::moment")
+    ),
+    ("a slice that may be written, and nothing said of it", dropped_clause, True, FUNCTIONS, "kiosk_read does not say what it leaves in told"),
+    ("a result of which only a bound is said", checked_says("r ≤ 5"), True, FUNCTIONS, "repository_check::check leaves open its result"),
+    ("a result that is said only on a condition", checked_says("r ≡ 0 → SAID"), True, FUNCTIONS, "repository_check::check leaves open its result"),
+    ("a result that is said to be itself", checked_says("r ≡ r"), True, FUNCTIONS, "repository_check::check leaves open its result"),
+    ("a result of which nothing is said", nothing_of_the_result, True, FUNCTIONS, "repository_check::check does not say its result"),
+    ("an exception that has an equation", listed("LESS", "shared::time_to_walk", "less"), True, FUNCTIONS, "take it off the list"),
+    ("an exception that is said to print and does not", listed("OUTSIDE", "shared::time_to_walk", "prints"), True, FUNCTIONS, "nothing that it calls does"),
+    ("an exception that is no function", listed("OPEN", "shared::time_to_fly", "open"), True, FUNCTIONS, "there is no function shared::time_to_fly"),
+    ("the page of functions changed by hand", lambda: sub("docs/FUNCTIONS.md", "| equation |", "| equations |"), False, FUNCTIONS, "is not what tests/functions.py writes"),
+    ("what two rows cite exchanged", lambda: exchange("1.4", "1.7", 2), True, PROMISES, "row 1.4 does not have"),
+    ("what two rows of one file cite exchanged", lambda: exchange("3.1", "3.2", 2), True, PROMISES, "row 3.2 does not have"),
+    ("what two parts cite exchanged", lambda: exchange("8.3", "8.4", 2), True, PROMISES, "row 8.3 does not have"),
+    ("the edits of two rows exchanged", lambda: exchange("1.2", "1.4", 3), True, PROMISES, "row 1.4 does not have edit"),
+    ("a row without an edit", lambda: (set_cell("1.9", 3, ""), sub(LIST, entry("1.9"), re.sub(r"    edits .*\n", "", entry("1.9")))), True, PROMISES, "1.9 has no edit"),
+    ("a row with a definition only", definition_only, True, PROMISES, "1.4 has no theorem and no contract"),
+    ("a row with no wrong program", lambda: set_cell("1.9", 4, ""), True, PROMISES, "1.9 names no wrong program"),
+    ("an emptied edit", lambda: write(edit_of("1.9"), ""), True, PROMISES, "it replaces nothing"),
+    ("an edit without its new text", lambda: write(edit_of("1.9"), re.sub(r"^new:.*\n", "", read(edit_of("1.9")), flags=re.M)), True, PROMISES, "it replaces nothing"),
+    ("an edit that changes nothing", lambda: write(edit_of("1.9"), re.sub(r"^old: (.*)\nnew: .*$", r"old: \1\nnew: \1", read(edit_of("1.9")), flags=re.M)), True, PROMISES, "it replaces a text by itself"),
+    ("an edit of what is not there", lambda: write(edit_of("1.9"), re.sub(r"^old: ", "old: nowhere ", read(edit_of("1.9")), flags=re.M)), True, PROMISES, "its old text does not stand in"),
+    ("an edit of a proof", lambda: write(edit_of("1.9"), re.sub(r"^file: \w+/", "file: proofs/", read(edit_of("1.9")), flags=re.M)), True, PROMISES, "which is no code and no definition"),
+    ("an edit gone", lambda: set_cell("1.9", 3, lambda c: c.replace("`model/", "`model/no_")), True, PROMISES, "no edit model/no_"),
+    ("a theorem deleted together with its block", theorem_and_block_gone, True, PROMISES, "row 3.8 does not have raptor/proofs/Promises.antt chosen-round"),
+    ("a theorem deleted with all that names it", row_without_its_only_theorem, True, PROMISES, "1.7 has no theorem and no contract"),
+    ("a theorem deleted and its block kept", lambda: theorem_gone(PROMISED, "past-unchanged"), True, PROMISES, "nothing to copy for"),
+    ("a sentence dropped with its row", sentence_and_row_gone, True, PROMISES, "the sentences are not those that were agreed"),
+    ("a sentence changed with its row", sentence_changed, True, PROMISES, "the sentences are not those that were agreed"),
+    ("a row that nobody wanted", lambda: sub(PAGE, row("1.9"), row("1.9") + "\n" + row("1.9").replace("| 1.9 |", "| 1.19 |")), True, PROMISES, "row 1.19 stands in no line"),
+    ("a name that is only text in its file", lambda: set_cell("1.4", 2, lambda c: c + ", `unfolding`"), True, PROMISES, "unfolding is no theorem, contract or definition"),
+    ("a private name", lambda: set_cell("1.4", 2, lambda c: c + ", `kept-journey`"), True, PROMISES, "kept-journey is no theorem, contract or definition"),
+    ("a name of another file", lambda: set_cell("1.3", 2, lambda c: c + "; `raptor/src/lib.rt` `kiosk_solve`"), True, PROMISES, "kiosk_solve is no theorem, contract or definition"),
+    ("a file that is not there", lambda: set_cell("1.3", 2, lambda c: c + "; `raptor/src/lip.rt`"), True, PROMISES, "no file raptor/src/lip.rt"),
+    ("a copy changed by hand", lambda: sub(COPIES, "drop z j′ ≡ drop z j", "drop z j′ ≡ j"), False, PROMISES, "the copy of past-unchanged is not the text"),
+    ("a statement changed, and its copy not", lambda: sub(PROMISED, "pub past-unchanged : drop z j′ ≡ drop z j", "pub past-unchanged : j ≡ j"), False, PROMISES, "the copy of past-unchanged is not the text"),
+    ("a copy that does not say of what", lambda: sub(COPIES, block_of("past-unchanged"), block_of("past-unchanged").split("\n\n", 1)[1]), False, PROMISES, "do not say which statement they copy"),
+    ("a link that leads elsewhere", lambda: set_cell("1.7", 2, lambda c: c.replace("#raptor-Promises-past-unchanged", "#raptor-Promises-any-order")), False, PROMISES, "past-unchanged does not lead to its statement"),
+    ("a statement without its anchor", lambda: sub(COPIES, 'id="raptor-Promises-past-unchanged"', 'id="past-unchanged"'), False, PROMISES, "past-unchanged does not lead to its statement"),
+    ("a new hypothesis of a theorem", new_hypothesis, True, PROMISES, "tables-refused supposes Accepted, and no witness is named"),
+    ("a witness that supposes something itself", witness_that_is_none, True, PROMISES, "accepted-sound is no witness"),
+    ("a hypothesis that nobody witnesses", witness_row_gone, True, PROMISES, "supposes Fair, and no witness is named"),
+    ("a line more to be believed", lambda: sub("crates/model/specs/Spans.antt", "\nuse ", "\n-- one line more\nuse "), False, PROMISES, "what must be believed is not what is counted"),
+    ("a file more to be believed", believed_unlisted, False, PROMISES, "what must be believed is not what is counted"),
+    ("more taken from the kit", lambda: sub("crates/model/specs/Spans.antt", "\nuse ", "\nuse lib.Perm.{perm}\nuse "), False, PROMISES, "what is taken from the kit"),
+    ("a crate that the map leaves out", lambda: sub("README.md", "| `marks` |", "| marks |"), False, PROMISES, "the map leaves out marks"),
+    ("code changed after the letter was filled in", lambda: sub(LIB, "\n}\n", "\n}\n\n"), True, SIGNED, "the sum of the text is not this tree's"),
+    ("a proof more after the letter was filled in", lambda: write("crates/model/proofs/More.antt", "-- one more\n"), True, SIGNED, "the sum of the text is not this tree's"),
+    ("a letter without its archive's sum", lambda: write(LETTER, re.sub(r"(libkiosk_c\.a` \| `)[0-9a-f]+", r"\1", read(LETTER))), True, SIGNED, "it does not name the sum of the library"),
+    ("a letter with another count of what must be read", lambda: write(LETTER, re.sub(r"\d+ files, ", "9 files, ", read(LETTER))), True, SIGNED, "our definitions are"),
+    ("a letter with a word of ours", lambda: sub(LETTER, "## Left out\n", "## Left out\n\nThe buffer.\n"), True, SIGNED, "a word that it does not explain: buffer"),
+    ("a letter with a number that nobody counted", lambda: sub(LETTER, "2,156,976", "2,156,979"), True, SIGNED, "a number that docs/DIFFERENCES.md does not have"),
+    ("a letter of two pages", lambda: write(LETTER, read(LETTER) + "\nMore.\n" * 30), True, SIGNED, "it is longer than a page"),
+]
+
+
+def run(*words):
+    done = subprocess.run([sys.executable, *words], cwd=room, stdout=subprocess.PIPE, stderr=subprocess.STDOUT, text=True)
+    return done.returncode, done.stdout
+
+
+def try_some(ways):
+    """Tries some of the ways in a copy of the tree, without target/; what was not noticed."""
+    global room
+    missed, room = [], os.path.join(tempfile.mkdtemp(), "tree")
+    try:
+        shutil.copytree(HERE, room, ignore=shutil.ignore_patterns("target", ".git", "__pycache__"))
+        for at in ways:
+            what, damage, anew, test, wanted = MUTATIONS[at]
+            damage()
+            if anew and test is not SIGNED:
+                for page in (PAGE, COPIES, LIST, "docs/FUNCTIONS.md"):
+                    write(page, read(page))
+                run("tests/functions.py") if test is FUNCTIONS else run("tests/promises.py", "write")
+            status, said = run(*test)
+            if status != 1 or "Traceback" in said or wanted not in said:
+                missed.append(f"not noticed: {what}\n{said}")
+            put_back()
+        if 0 in ways:  # the tree as it is passes
+            missed += [f"with nothing damaged, {words[0]} says\n{said}" for words in (PROMISES, FUNCTIONS, SIGNED) for status, said in [run(*words)] if status != 0]
+    finally:
+        shutil.rmtree(os.path.dirname(room))
+    return missed
+
+
+if __name__ == "__main__":
+    with concurrent.futures.ProcessPoolExecutor(WORKERS) as pool:
+        missed = sum(pool.map(try_some, [range(w, len(MUTATIONS), WORKERS) for w in range(WORKERS)]), [])
+    print("\n".join(missed) if missed else f"{len(MUTATIONS)} ways to damage the tree, each noticed")
+    sys.exit(len(missed) > 0)
