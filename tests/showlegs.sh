@@ -1,5 +1,6 @@
 #!/bin/sh
 # The program `showlegs` held to document 01: legs and their number; `bad` and the offset of the bad leg's first byte; `long` above 4,096 bytes.
+# An input that cannot be read is `unreadable`.
 set -eu
 cd "$(dirname "$0")/.."
 said=$(rt check showlegs 2>&1) || { printf '%s\n' "$said"; exit 1; }
@@ -64,5 +65,19 @@ held '4,096 bytes' 4096
 printf '\001' >>"$room/bytes"
 echo long >"$room/expected"
 held '4,097 bytes' 4097
+
+# a failed read is no empty journey: a directory, and an input that is closed
+echo unreadable >"$room/expected"
+tests/run.sh showlegs <"$room" >"$room/printed"
+diff "$room/expected" "$room/printed" || { echo 'showlegs: a directory'; exit 1; }
+tests/run.sh showlegs <&- >"$room/printed"
+diff "$room/expected" "$room/printed" || { echo 'showlegs: a closed input'; exit 1; }
+runs=$((runs + 2))
+
+# bytes that come in parts are one journey
+{ ride 0 2 0 100 300; sleep 1; transfer 2 3 300 330; ride 3 4 2 350 450; } | tests/run.sh showlegs >"$room/printed"
+printf '%s\nlegs 3\n' "$n1_said" >"$room/expected"
+diff "$room/expected" "$room/printed" || { echo 'showlegs: bytes in parts'; exit 1; }
+runs=$((runs + 1))
 
 echo "showlegs: $runs runs printed what document 01 asks for"

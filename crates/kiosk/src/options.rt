@@ -1,95 +1,42 @@
-// The options behind the four arguments that a query has, in any order and each at most once.
-use super::bytes;
+// The options that the arguments say; a line says which of them is bad, and why.
+use arguments::options::Chosen;
+use arguments::options::Options;
+use arguments::options::Said;
 
-// What is said so far.
-pub struct Options {
-    // 0 unsaid, 1 yes, 2 no
-    pub walks: u32,
-    // 0 unsaid, 1 the source's, 2 rescan
-    pub mode: u32,
-    // the place of the argument that names a file of tables, and 0 for none
-    pub file: usize,
-}
-
-// The options, or that one is bad: a line has said why.
-pub enum Chosen {
+// The options, or that one is bad.
+pub enum Read {
     Options(Options),
     Bad,
 }
 
-pub fn none() -> Options {
-    Options {
-        walks: 0,
-        mode: 0,
-        file: 0,
+// Says why an argument is no option.
+fn print_bad(said: Said) {
+    match said {
+        Said::Walks(_) => print::text(b": walks is given twice, and may be given once\n"),
+        Said::Mode(_) => print::text(b": mode is given twice, and may be given once\n"),
+        Said::Tables => print::text(b": tables is given twice, and may be given once\n"),
+        Said::Midnight(_) => print::text(b": midnight is given twice, and may be given once\n"),
+        Said::BadWalks => print::text(b" is no option: walks is yes or no\n"),
+        Said::BadMode => print::text(b" is no option: mode is source or rescan\n"),
+        Said::BadTables => print::text(b" names no file\n"),
+        Said::BadMidnight => print::text(
+            b" is no option: midnight is a number of seconds, at most 4294967295\n",
+        ),
+        Said::Unknown => print::text(
+            b" is no option: there are walks, mode, tables and midnight\n",
+        ),
     }
-}
-
-fn bad(arg: &[u8], why: &[u8]) -> Chosen {
-    print::text(b"option: ");
-    print::text(arg);
-    print::text(why);
-    Chosen::Bad
-}
-
-fn with_walks(o: Options, arg: &[u8], walks: u32) -> Chosen {
-    if o.walks == 0 {
-        return Chosen::Options(Options {
-            walks: walks,
-            mode: o.mode,
-            file: o.file,
-        });
-    }
-    bad(arg, b": walks is given twice, and may be given once\n")
-}
-
-fn with_mode(o: Options, arg: &[u8], mode: u32) -> Chosen {
-    if o.mode == 0 {
-        return Chosen::Options(Options {
-            walks: o.walks,
-            mode: mode,
-            file: o.file,
-        });
-    }
-    bad(arg, b": mode is given twice, and may be given once\n")
-}
-
-fn with_file(o: Options, arg: &[u8], file: usize) -> Chosen {
-    if arg.len() == 7 {
-        return bad(arg, b" names no file\n");
-    }
-    if o.file == 0 {
-        return Chosen::Options(Options {
-            walks: o.walks,
-            mode: o.mode,
-            file: file,
-        });
-    }
-    bad(arg, b": tables is given twice, and may be given once\n")
 }
 
 // The options with the one that argument i is.
-pub fn with_option(o: Options, arg: &[u8], i: usize) -> Chosen {
-    if bytes::is(arg, b"walks:yes") {
-        return with_walks(o, arg, 1);
-    }
-    if bytes::is(arg, b"walks:no") {
-        return with_walks(o, arg, 2);
-    }
-    if bytes::is(arg, b"mode:source") {
-        return with_mode(o, arg, 1);
-    }
-    if bytes::is(arg, b"mode:rescan") {
-        return with_mode(o, arg, 2);
-    }
-    if 0 < bytes::after(arg, b"tables:") {
-        return with_file(o, arg, i);
-    }
-    if 0 < bytes::after(arg, b"walks:") {
-        return bad(arg, b" is no option: walks is yes or no\n");
-    }
-    if 0 < bytes::after(arg, b"mode:") {
-        return bad(arg, b" is no option: mode is source or rescan\n");
-    }
-    bad(arg, b" is no option: there are walks, mode and tables\n")
+pub fn with_option(o: Options, arg: &[u8], i: usize) -> Read {
+    let said = arguments::options::said_of(arg);
+    let chosen = arguments::options::with_said(o, said, i);
+    let Chosen::Options(more) = chosen else {
+        print::text(b"option: ");
+        print::text(arg);
+        print_bad(said);
+        return Read::Bad;
+    };
+    Read::Options(more)
 }

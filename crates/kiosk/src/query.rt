@@ -1,11 +1,8 @@
 // The query that the arguments are, or a line that says which argument is bad and why.
-use super::bytes;
-use super::bytes::Number;
-use super::moment;
-use super::moment::Moment;
 use super::options;
-use super::options::Chosen;
-use super::options::Options;
+use super::options::Read;
+use arguments::moment::Moment;
+use arguments::options::Options;
 use model::Location;
 use model::Mode;
 use model::Query;
@@ -13,9 +10,16 @@ use model::TimeConstraint;
 use model::Walks;
 use shared::Time;
 
-// A query and the place of the argument that names a file of tables, 0 for none; or that an argument is bad.
+// A query, the place of the argument that names a file of tables, 0 for none, and the timetable's midnight.
+pub struct Question {
+    pub query: Query,
+    pub file: usize,
+    pub midnight: u32,
+}
+
+// What is asked, or that an argument is bad.
 pub enum Asked {
-    Query(Query, usize),
+    Question(Question),
     Bad,
 }
 
@@ -25,13 +29,18 @@ enum Place {
 }
 
 enum When {
-    At(TimeConstraint),
+    At(u32),
     Bad,
 }
 
 enum Direction {
     Departure,
     Arrival,
+    Bad,
+}
+
+enum Constraint {
+    At(TimeConstraint),
     Bad,
 }
 
@@ -57,16 +66,11 @@ fn is_whole(name: &[u8], error: i32) -> bool {
 }
 
 fn place_of(name: &[u8], arg: &[u8]) -> Place {
-    let from = bytes::after(arg, b"area:");
-    let number = bytes::number_in(arg, from, arg.len());
-    match number {
-        Number::Value(n) => {
-            if from == 0 {
-                return Place::At(Location::Stop(n));
-            }
-            return Place::At(Location::Area(n));
-        }
-        Number::Nothing => {
+    let place = arguments::place::place_of(arg);
+    match place {
+        arguments::place::Place::Stop(n) => return Place::At(Location::Stop(n)),
+        arguments::place::Place::Area(n) => return Place::At(Location::Area(n)),
+        arguments::place::Place::Nothing => {
             say(
                 name,
                 arg,
@@ -74,7 +78,7 @@ fn place_of(name: &[u8], arg: &[u8]) -> Place {
             );
             return Place::Bad;
         }
-        Number::TooLarge => {
+        arguments::place::Place::TooLarge => {
             say(name, arg, b" is no place: a number is at most 4294967295\n");
             return Place::Bad;
         }
@@ -91,10 +95,10 @@ fn read_place(buffer: &mut [u8], i: usize, name: &[u8]) -> Place {
 }
 
 fn direction_of(arg: &[u8]) -> Direction {
-    if bytes::is(arg, b"depart") {
+    if arguments::bytes::is(arg, b"depart") {
         return Direction::Departure;
     }
-    if bytes::is(arg, b"arrive") {
+    if arguments::bytes::is(arg, b"arrive") {
         return Direction::Arrival;
     }
     say(
@@ -114,16 +118,10 @@ fn read_direction(buffer: &mut [u8]) -> Direction {
     Direction::Bad
 }
 
-fn constraint_of(direction: Direction, arg: &[u8]) -> When {
-    let moment = moment::moment_of(arg);
+// The seconds of a moment; says why there are none.
+fn seconds_of(arg: &[u8], moment: Moment) -> When {
     match moment {
-        Moment::At(t) => {
-            match direction {
-                Direction::Departure => return When::At(TimeConstraint::Departure(Time(t))),
-                Direction::Arrival => return When::At(TimeConstraint::Arrival(Time(t))),
-                Direction::Bad => return When::Bad,
-            }
-        }
+        Moment::At(t) => return When::At(t),
         Moment::NoForm => {
             say(b"MOMENT", arg, b" is no moment: give seconds, or H:MM:SS\n");
             return When::Bad;
@@ -140,49 +138,62 @@ fn constraint_of(direction: Direction, arg: &[u8]) -> When {
             say(
                 b"MOMENT",
                 arg,
-                b" is no moment: there are at most 4294967295 seconds\n",
+                b" is no moment: there are at most 4294967295 seconds, those of midnight among them\n",
             );
             return When::Bad;
         }
     }
 }
 
-// The moment that argument 4 is, as the earliest departure or the latest arrival.
-fn read_constraint(buffer: &mut [u8]) -> When {
-    let direction = read_direction(buffer);
-    if let Direction::Bad = direction {
-        return When::Bad;
-    }
+// The moment that argument 4 is.
+fn read_moment(buffer: &mut [u8]) -> When {
     let n = os::arg(4, buffer);
     if is_whole(b"MOMENT", os::errno()) {
-        return constraint_of(direction, &buffer[..n]);
+        let moment = arguments::moment::moment_of(&buffer[..n]);
+        return seconds_of(&buffer[..n], moment);
     }
     When::Bad
 }
 
+// The moment t, which argument 4 said, against the timetable's midnight.
+fn read_moved(buffer: &mut [u8], t: u32, midnight: u32) -> When {
+    let n = os::arg(4, buffer);
+    let moment = arguments::moment::moved(t, midnight);
+    seconds_of(&buffer[..n], moment)
+}
+
+// The earliest departure or the latest arrival.
+fn constraint_of(direction: Direction, t: u32) -> Constraint {
+    match direction {
+        Direction::Departure => Constraint::At(TimeConstraint::Departure(Time(t))),
+        Direction::Arrival => Constraint::At(TimeConstraint::Arrival(Time(t))),
+        Direction::Bad => Constraint::Bad,
+    }
+}
+
 // The options with the one that argument i is.
-fn read_option(buffer: &mut [u8], i: usize, o: Options) -> Chosen {
+fn read_option(buffer: &mut [u8], i: usize, o: Options) -> Read {
     let n = os::arg(i, buffer);
     if is_whole(b"option", os::errno()) {
         return options::with_option(o, &buffer[..n], i);
     }
-    Chosen::Bad
+    Read::Bad
 }
 
 // The options that argument 5 and those behind it are.
-fn read_options(buffer: &mut [u8]) -> Chosen {
+fn read_options(buffer: &mut [u8]) -> Read {
     let count = os::arg_count();
-    let mut o = options::none();
+    let mut o = arguments::options::none();
     let mut i = 5;
     while i < count {
         let next = read_option(buffer, i, o);
-        let Chosen::Options(more) = next else {
-            return Chosen::Bad;
+        let Read::Options(more) = next else {
+            return Read::Bad;
         };
         o = more;
         i += 1;
     }
-    Chosen::Options(o)
+    Read::Options(o)
 }
 
 fn walks_of(said: u32) -> Walks {
@@ -200,7 +211,61 @@ fn mode_of(said: u32) -> Mode {
     Mode::Source
 }
 
-// The query that the arguments are. `buffer` holds one argument at a time.
+// What is asked at the time c with the options o.
+fn asked_at(from: Location, to: Location, c: TimeConstraint, o: Options) -> Question {
+    let w = walks_of(o.walks);
+    let m = mode_of(o.mode);
+    let q = Query {
+        from: from,
+        to: to,
+        time: c,
+        walks: w,
+        mode: m,
+    };
+    Question {
+        query: q,
+        file: o.file,
+        midnight: o.midnight,
+    }
+}
+
+// What is asked between two places at a moment: the options say which midnight that moment counts from.
+fn read_asked(
+    buffer: &mut [u8],
+    from: Location,
+    to: Location,
+    direction: Direction,
+    t: u32,
+) -> Asked {
+    let read = read_options(buffer);
+    let Read::Options(o) = read else {
+        return Asked::Bad;
+    };
+    let moved = read_moved(buffer, t, o.midnight);
+    let When::At(m) = moved else {
+        return Asked::Bad;
+    };
+    let constraint = constraint_of(direction, m);
+    let Constraint::At(c) = constraint else {
+        return Asked::Bad;
+    };
+    Asked::Question(asked_at(from, to, c, o))
+}
+
+// What is asked between two places: arguments 3 and 4, and the options behind them.
+fn read_rest(buffer: &mut [u8], from: Location, to: Location) -> Asked {
+    let direction = read_direction(buffer);
+    if let Direction::Bad = direction {
+        return Asked::Bad;
+    }
+    let moment = read_moment(buffer);
+    let When::At(t) = moment else {
+        return Asked::Bad;
+    };
+    read_asked(buffer, from, to, direction, t)
+}
+
+// What the arguments ask. `buffer` holds one argument at a time.
 pub fn read_query(buffer: &mut [u8]) -> Asked {
     let from = read_place(buffer, 1, b"FROM");
     let Place::At(f) = from else {
@@ -210,24 +275,18 @@ pub fn read_query(buffer: &mut [u8]) -> Asked {
     let Place::At(t) = to else {
         return Asked::Bad;
     };
-    let time = read_constraint(buffer);
-    let When::At(c) = time else {
-        return Asked::Bad;
-    };
-    let chosen = read_options(buffer);
-    let Chosen::Options(o) = chosen else {
-        return Asked::Bad;
-    };
-    let w = walks_of(o.walks);
-    let m = mode_of(o.mode);
-    Asked::Query(
-        Query {
-            from: f,
-            to: t,
-            time: c,
-            walks: w,
-            mode: m,
-        },
-        o.file,
-    )
+    read_rest(buffer, f, t)
+}
+
+// Whether argument 1 asks for help.
+pub fn asks_help(buffer: &mut [u8]) -> bool {
+    let n = os::arg(1, buffer);
+    is_help(&buffer[..n])
+}
+
+fn is_help(arg: &[u8]) -> bool {
+    if arguments::bytes::is(arg, b"--help") {
+        return true;
+    }
+    arguments::bytes::is(arg, b"-h")
 }

@@ -1,6 +1,4 @@
 // The words of flat tables from a file: decimal numbers with spaces or line ends between them, and `net` before them or not.
-use super::bytes;
-ghost use Prim.Native.Nat.{_≤_};
 
 // What stops the reading.
 const NO_NUMBER: u32 = 1;
@@ -11,6 +9,9 @@ const TOO_MANY: u32 = 3;
 
 const UNREAD: u32 = 4;
 
+// its first byte is `#` or a letter that no tables begin with
+const TIMETABLE: u32 = 5;
+
 // What is known of the file so far.
 pub struct Words {
     // how many words are stored
@@ -19,14 +20,12 @@ pub struct Words {
     pub fault: u32,
     // what is open: 0 nothing, 1 a number, 2 `n`, 3 `ne`, 4 `net`
     open: u32,
-    value: u64,
+    value: u32,
     // no word has begun yet
     first: bool,
 }
 
-fn new() -> Words
-    ensures { λ r. ⌜ r .value ≤ 4294967296 ⌝ }
-{
+fn new() -> Words {
     Words {
         count: 0,
         fault: 0,
@@ -37,10 +36,7 @@ fn new() -> Words
 }
 
 // The words so far with something open.
-fn opened(w: Words, open: u32, value: u64) -> Words
-    requires { ⌜ value ≤ 4294967296 ⌝ }
-    ensures { λ r. ⌜ r .value ≤ 4294967296 ⌝ }
-{
+fn opened(w: Words, open: u32, value: u32) -> Words {
     Words {
         count: w.count,
         fault: 0,
@@ -50,9 +46,7 @@ fn opened(w: Words, open: u32, value: u64) -> Words
     }
 }
 
-fn faulty(w: Words, fault: u32) -> Words
-    ensures { λ r. ⌜ r .value ≤ 4294967296 ⌝ }
-{
+fn faulty(w: Words, fault: u32) -> Words {
     Words {
         count: w.count,
         fault: fault,
@@ -63,33 +57,23 @@ fn faulty(w: Words, fault: u32) -> Words
 }
 
 // The words with an open number stored.
-fn stored(tables: &mut [u32], w: Words) -> Words
-    requires { ⌜ w .value ≤ 4294967296 ⌝ }
-    ensures { λ r. ⌜ r .value ≤ 4294967296 ⌝ }
-{
+fn stored(tables: &mut [u32], w: Words) -> Words {
     let count = w.count;
-    let value = w.value;
-    if value < 4294967296 {
-        if count < tables.len() {
-            tables[count] = value as u32;
-            return Words {
-                count: count + 1,
-                fault: 0,
-                open: 0,
-                value: 0,
-                first: false,
-            };
-        }
-        return faulty(w, TOO_MANY);
+    if count < tables.len() {
+        tables[count] = w.value;
+        return Words {
+            count: count + 1,
+            fault: 0,
+            open: 0,
+            value: 0,
+            first: false,
+        };
     }
-    faulty(w, TOO_LARGE)
+    faulty(w, TOO_MANY)
 }
 
 // The words with what is open closed: by a space, a line's end or the file's.
-fn close(tables: &mut [u32], w: Words) -> Words
-    requires { ⌜ w .value ≤ 4294967296 ⌝ }
-    ensures { λ r. ⌜ r .value ≤ 4294967296 ⌝ }
-{
+fn close(tables: &mut [u32], w: Words) -> Words {
     let open = w.open;
     if w.fault != 0 {
         return w;
@@ -102,15 +86,19 @@ fn close(tables: &mut [u32], w: Words) -> Words
     }
 }
 
+// The words with a first byte that is no digit: `n`, or what a timetable begins with.
+fn first_letter(w: Words, b: u8) -> Words {
+    match b {
+        110 => return opened(w, 2, 0),
+        35 | 97..=122 => return faulty(w, TIMETABLE),
+        _ => return faulty(w, NO_NUMBER),
+    }
+}
+
 // The words with one more byte of `net`, which only a file's first word may be.
-fn letter(w: Words, b: u8) -> Words
-    requires { ⌜ w .value ≤ 4294967296 ⌝ }
-    ensures { λ r. ⌜ r .value ≤ 4294967296 ⌝ }
-{
+fn letter(w: Words, b: u8) -> Words {
     if w.first {
-        if b == b'n' {
-            return opened(w, 2, 0);
-        }
+        return first_letter(w, b);
     }
     if w.open == 2 {
         if b == b'e' {
@@ -126,21 +114,19 @@ fn letter(w: Words, b: u8) -> Words
 }
 
 // The words with one more digit.
-fn digit(w: Words, b: u8) -> Words
-    requires { ⌜ w .value ≤ 4294967296 ⌝ }
-    ensures { λ r. ⌜ r .value ≤ 4294967296 ⌝ }
-{
+fn digit(w: Words, b: u8) -> Words {
     if 1 < w.open {
         return faulty(w, NO_NUMBER);
     }
-    opened(w, 1, lines::longer(w.value, b))
+    let value = arguments::bytes::longer(w.value, b);
+    if value < 4294967296 {
+        return opened(w, 1, value as u32);
+    }
+    faulty(w, TOO_LARGE)
 }
 
 // Goes on with one more byte.
-fn feed(tables: &mut [u32], w: Words, b: u8) -> Words
-    requires { ⌜ w .value ≤ 4294967296 ⌝ }
-    ensures { λ r. ⌜ r .value ≤ 4294967296 ⌝ }
-{
+fn feed(tables: &mut [u32], w: Words, b: u8) -> Words {
     if w.fault != 0 {
         return w;
     }
@@ -148,7 +134,7 @@ fn feed(tables: &mut [u32], w: Words, b: u8) -> Words
         // a space, and what ends a line
         32 | 10 | 13 => return close(tables, w),
         _ => {
-            if bytes::is_digit(b) {
+            if arguments::bytes::is_digit(b) {
                 return digit(w, b);
             }
             return letter(w, b);
@@ -157,10 +143,7 @@ fn feed(tables: &mut [u32], w: Words, b: u8) -> Words
 }
 
 // Goes on with a block of bytes.
-fn feed_all(tables: &mut [u32], words: Words, block: &[u8]) -> Words
-    requires { ⌜ words .value ≤ 4294967296 ⌝ }
-    ensures { λ r. ⌜ r .value ≤ 4294967296 ⌝ }
-{
+fn feed_all(tables: &mut [u32], words: Words, block: &[u8]) -> Words {
     let mut w = words;
     let mut i = 0;
     while i < block.len() {
@@ -177,10 +160,7 @@ struct Turn {
 }
 
 // Goes on with what one read gives.
-fn read_some(fd: i32, tables: &mut [u32], words: Words) -> Turn
-    requires { ⌜ words .value ≤ 4294967296 ⌝ }
-    ensures { λ r. ⌜ r .words .value ≤ 4294967296 ⌝ }
-{
+fn read_some(fd: i32, tables: &mut [u32], words: Words) -> Turn {
     let mut block = [0u8; 2048];
     let got = libc::read(fd, &mut block);
     if got < 0 {
@@ -247,6 +227,12 @@ pub fn print_fault(path: &[u8], w: Words) {
         print::number(w.count as u64);
         print::text(
             b" words, and this program has no room for more: link the library (see README)\n",
+        );
+        return;
+    }
+    if w.fault == TIMETABLE {
+        print::text(
+            b" has no number first: this looks like a timetable: tools/timetable.py turns it into tables\n",
         );
         return;
     }

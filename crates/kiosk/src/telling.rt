@@ -1,31 +1,35 @@
 // An answer in words: the journey, leg by leg, or the number of a refusal and what it means.
+use super::meant;
 use super::moment;
+use super::query::Question;
 use asking::Told;
 use journey::LegRead;
 use model::Answer;
 use model::Leg;
 use model::LegType;
+use model::Query;
+use model::TimeConstraint;
 use shared::Time;
 ghost use Prim.Native.Nat.{_≤_};
 
 // A stop and when one is there.
-fn print_stop(stop: u32, at: Time) {
+fn print_stop(stop: u32, at: Time, midnight: u32) {
     print::text(b"stop ");
     print::number(stop as u64);
     print::text(b" at ");
-    moment::print_moment(at.0);
+    moment::print_moment(at.0, midnight);
 }
 
 // Between which stops a leg goes, and when.
-fn print_ends(g: Leg) {
+fn print_ends(g: Leg, midnight: u32) {
     print::text(b" from ");
-    print_stop(g.from, g.departure);
+    print_stop(g.from, g.departure, midnight);
     print::text(b" to ");
-    print_stop(g.to, g.arrival);
+    print_stop(g.to, g.arrival, midnight);
     print::text(b"\n");
 }
 
-fn print_leg(g: Leg) {
+fn print_leg(g: Leg, midnight: u32) {
     let kind = g.kind;
     match kind {
         LegType::Transit(trip) => {
@@ -35,7 +39,7 @@ fn print_leg(g: Leg) {
         LegType::Transfer => print::text(b"transfer"),
         LegType::Walk => print::text(b"walk"),
     }
-    print_ends(g);
+    print_ends(g, midnight);
 }
 
 // 1 for a ride, 0 for a footpath.
@@ -50,14 +54,14 @@ fn rides_of(g: Leg) -> usize
     }
 }
 
-fn print_legs(bytes: &[u8]) {
+fn print_legs(bytes: &[u8], midnight: u32) {
     let mut at = 0;
     while at < bytes.len() {
         let next = journey::read_leg(bytes, at);
         let LegRead::Whole(g) = next else {
             return;
         };
-        print_leg(g);
+        print_leg(g, midnight);
         at += print::size(g);
     }
 }
@@ -101,36 +105,51 @@ fn print_rides(rides: usize) {
     print::text(b" rides");
 }
 
-// A journey: first its two ends, then each leg.
-fn print_journey(bytes: &[u8], round: u32) {
+// A journey's two ends, then which stops were meant, then each leg.
+fn print_journey(
+    tables: &[u32],
+    places: &mut [u32],
+    bytes: &[u8],
+    round: u32,
+    q: Query,
+    midnight: u32,
+) {
     let next = journey::read_leg(bytes, 0);
     let LegRead::Whole(first) = next else {
         return;
     };
     let last = last_leg(bytes, first);
     print::text(b"Leave ");
-    print_stop(first.from, first.departure);
+    print_stop(first.from, first.departure, midnight);
     print::text(b", arrive at ");
-    print_stop(last.to, last.arrival);
+    print_stop(last.to, last.arrival, midnight);
     print::text(b": ");
     print_rides(count_rides(bytes));
     print::text(b", round ");
     print::number(round as u64);
     print::text(b".\n");
-    print_legs(bytes);
+    meant::print_meant(tables, places, q);
+    print_legs(bytes, midnight);
 }
 
 // The journey that the buffer's first `length` bytes are.
-fn print_found(journey: &[u8], length: usize, round: u32) {
+fn print_found(
+    tables: &[u32],
+    places: &mut [u32],
+    journey: &[u8],
+    length: usize,
+    round: u32,
+    q: Query,
+    midnight: u32,
+) {
     if journey.len() < length {
         return;
     }
-    print_journey(&journey[..length], round);
+    print_journey(tables, places, &journey[..length], round, q, midnight);
 }
 
-// What a refusal means, in document 01's words.
-fn print_refusal(number: u32) {
-    print::number(number as u64);
+// What a number of the tables means, in document 01's words.
+fn print_fault(number: u32) {
     match number {
         1 => print::text(
             b": a count over its limit, a route without a stop, a slice of wrong length\n",
@@ -140,20 +159,75 @@ fn print_refusal(number: u32) {
             b": a timetable moment outside 1 to 1,000,000; arrival after departure at a position; departure after the next position's arrival\n",
         ),
         4 => print::text(b": trips of a route out of order\n"),
-        5 => print::text(
+        _ => print::text(
             b": a distance that is NaN, below 0 or above 100,000; a stated transfer span above 86,400\n",
         ),
-        6 => print::text(b": a workspace slice of wrong length\n"),
-        7 => print::text(b": a stop or area that does not exist\n"),
-        8 => print::text(b": query moment outside 1 to 1,000,000\n"),
-        9 => print::text(b": an area without a served stop\n"),
-        10 => print::text(b": no route found\n"),
-        _ => print::text(b": a chosen stop but no leg\n"),
     }
 }
 
-// The answer; the journey stands in `journey`.
-pub fn tell(journey: &[u8], told: Told) {
+// Where the fault stands, if the tables are a file's.
+fn print_where(path: &[u8]) {
+    if path.len() == 0 {
+        return;
+    }
+    print::text(b"tools/fault.py ");
+    print::text(path);
+    print::text(b" says where\n");
+}
+
+// 8, and that the moment which was searched for has the seconds of midnight in it.
+fn print_outside(midnight: u32) {
+    print::text(b": query moment outside 1 to 1,000,000");
+    if midnight != 0 {
+        print::text(b", with the ");
+        print::number(midnight as u64);
+        print::text(b" seconds of midnight");
+    }
+    print::text(b"\n");
+}
+
+// What a refusal means, in document 01's words.
+fn print_refusal(tables: &[u32], path: &[u8], number: u32, q: Query, midnight: u32) {
+    print::number(number as u64);
+    match number {
+        6 => print::text(b": a workspace slice of wrong length\n"),
+        7 => {
+            print::text(b": a stop or area that does not exist");
+            meant::print_missing(tables, q);
+        }
+        8 => print_outside(midnight),
+        9 => print::text(b": an area without a served stop\n"),
+        _ => {
+            print_fault(number);
+            print_where(path);
+        }
+    }
+}
+
+// 10, and what no journey is.
+fn print_no_route(time: TimeConstraint) {
+    match time {
+        TimeConstraint::Departure(_) => print::text(
+            b"10: no route found; a journey that departs begins with a ride, and a walk alone is none\n",
+        ),
+        TimeConstraint::Arrival(_) => print::text(
+            b"10: no route found; a journey that arrives ends with a ride, and a walk alone is none\n",
+        ),
+    }
+}
+
+// The answer; the journey stands in `journey`, the tables are those of the file at `path`, and the places are free.
+pub fn tell(
+    tables: &[u32],
+    path: &[u8],
+    places: &mut [u32],
+    journey: &[u8],
+    told: Told,
+    asked: Question,
+) {
+    let q = asked.query;
+    let time = q.time;
+    let midnight = asked.midnight;
     let Told::Answer(a) = told else {
         print::text(
             b"these tables need more room than this program has: link the library (see README)\n",
@@ -166,10 +240,13 @@ pub fn tell(journey: &[u8], told: Told) {
             stop: _,
             round,
             length,
-        } => print_found(journey, length, round),
-        Answer::Refused(number) => print_refusal(number),
-        Answer::NoRouteFound => print_refusal(10),
-        Answer::FailedToBuildRoute => print_refusal(11),
+        } => print_found(tables, places, journey, length, round, q, midnight),
+        Answer::Refused(number) => print_refusal(tables, path, number, q, midnight),
+        Answer::NoRouteFound => {
+            print_no_route(time);
+            meant::print_meant(tables, places, q);
+        }
+        Answer::FailedToBuildRoute => print::text(b"11: a chosen stop but no leg\n"),
         Answer::TooLong(length) => {
             print::text(b"12: journey longer than its buffer: it takes ");
             print::number(length as u64);

@@ -1,8 +1,8 @@
 -- `kiosk::query::read_options` ends.
 use borrow.Author.Needs.{needs}
-use Prim.Native.Nat.{_-_}
-use lib.ListN.{length}
 use mathlib.Core.Path.{_≡_}
+use lib.ListN.{length}
+use Prim.Native.Nat.{_-_}
 use Rattle.kiosk.proofs.query.read_options.Statement.{statement}
 use Rattle.kiosk.proofs.query.read_options.Tie as tie
 

@@ -1,13 +1,13 @@
--- `kiosk::tables::feed_all` ends, and the open value stays small.
+-- `kiosk::tables::feed_all` ends.
 use borrow.Author.Needs.{needs}
-use Prim.Native.Nat.{_-_, _≤_}
-use lib.ListN.{length}
 use mathlib.Core.Path.{_≡_}
+use lib.ListN.{length}
+use Prim.Native.Nat.{_-_}
 use Rattle.kiosk.proofs.tables.feed_all.Statement.{statement}
 use Rattle.kiosk.proofs.tables.feed_all.Tie as tie
 
 abbrev Inv-loop : tie.InvT-loop
-Inv-loop tables₀ block w₀ i₀ tables w i = (w .value ≤ 4294967296) × (length tables ≡ length tables₀)
+Inv-loop tables₀ block w₀ i₀ tables w i = length tables ≡ length tables₀
 
 abbrev μ-loop : tie.MeasureT-loop
 μ-loop tables₀ block w₀ i₀ tables w i = length block - i

@@ -1,13 +1,12 @@
--- `kiosk::tables::read_all` ends, and the open value stays small.
+-- `kiosk::tables::read_all` ends.
 use borrow.Author.Needs.{needs}
-use Prim.Native.Nat.{_≤_}
-use lib.ListN.{length}
 use mathlib.Core.Path.{_≡_}
+use lib.ListN.{length}
 use Rattle.kiosk.proofs.tables.read_all.Statement.{statement}
 use Rattle.kiosk.proofs.tables.read_all.Tie as tie
 
 abbrev Inv-loop : tie.InvT-loop
-Inv-loop fd tables₀ turn₀ turns₀ tables turn turns = (turn .words .value ≤ 4294967296) × (length tables ≡ length tables₀)
+Inv-loop fd tables₀ turn₀ turns₀ tables turn turns = length tables ≡ length tables₀
 
 abbrev μ-loop : tie.MeasureT-loop
 μ-loop fd tables₀ turn₀ turns₀ tables turn turns = turns

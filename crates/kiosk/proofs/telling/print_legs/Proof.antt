@@ -1,15 +1,15 @@
 -- `kiosk::telling::print_legs` ends: each leg takes a byte at least.
 use borrow.Author.Needs.{needs}
-use Prim.Native.Nat.{_-_}
 use lib.ListN.{length}
+use Prim.Native.Nat.{_-_}
 use Rattle.kiosk.proofs.telling.print_legs.Statement.{statement}
 use Rattle.kiosk.proofs.telling.print_legs.Tie as tie
 
 abbrev Inv-loop : tie.InvT-loop
-Inv-loop bytes at₀ at = Unit {0}
+Inv-loop bytes midnight at₀ at = Unit {0}
 
 abbrev μ-loop : tie.MeasureT-loop
-μ-loop bytes at₀ at = length bytes - at
+μ-loop bytes midnight at₀ at = length bytes - at
 
 loop-holds : tie.Need-loop-holds Inv-loop μ-loop
 loop-holds c = search needs
