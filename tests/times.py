@@ -1,5 +1,5 @@
 #!/usr/bin/env python3
-# times.py LOG: writes docs/CHECK-TIMES.md from what `./test` said on a machine (`./test > LOG 2>&1`; with `time` before it the whole is taken too).
+# times.py LOG: writes docs/CHECK-TIMES.md from what `./test` said on this machine (`./test > LOG 2>&1`; with `time` before it the whole is taken too).
 import os, re, sys
 
 log = open(sys.argv[1], encoding="utf-8").read()
@@ -14,10 +14,11 @@ for name in crates:
     own = [int(s) for crate, s in edits if crate == name]
     all_edits += sum(own)
     rows.append(f"| {name} | {proved.get(name, '')} | {len(own)} | {sum(own) or ''} |")
+machine = {"x86_64": "x86-64", "aarch64": "Arm"}.get(os.uname().machine, os.uname().machine)
 took = f"{whole.group(1)} minutes" if whole else "an unmeasured time"
 page = f"""# Check times
 
-The seconds that `rt ci` gave for each crate on 2 cores (Arm, 24 GiB), two crates side by side. A must-fail edit costs its crate's whole check again:
+The seconds that `rt ci` gave for each crate on {os.cpu_count()} cores ({machine}), two crates side by side. A must-fail edit costs its crate's whole check again:
 the {len(edits)} edits take {all_edits // 60} minutes of one core, the {len(rows)} crates {sum(proved.values()) // 60}. `tests/times.py LOG` makes this page from what `./test` said.
 
 | crate | seconds | must-fail edits | seconds of them all |

@@ -207,6 +207,41 @@ unfoldable pub T : Net
 unfolding of-routes
 T = of-routes 2 (route (0 ∷ 1 ∷ []) (((10, 10) ∷ (20, 20) ∷ []) ∷ ((10, 12) ∷ (25, 25) ∷ []) ∷ []) ∷ [])
 
+-- two trips of one route, and both its last stops in one station
+unfoldable pub U : Net
+unfolding with-places
+U =
+    with-places 4
+    (route (0 ∷ 1 ∷ 2 ∷ []) (((10, 10) ∷ (20, 20) ∷ (30, 30) ∷ []) ∷ ((12, 12) ∷ (25, 25) ∷ (40, 40) ∷ []) ∷ []) ∷ [])
+    (none ∷ some 3 ∷ some 3 ∷ none ∷ []) []
+
+-- two trips of one route, and a ride on from each of its last stops
+unfoldable pub Y : Net
+unfolding of-routes
+Y =
+    of-routes 4
+    (route (0 ∷ 1 ∷ 2 ∷ []) (((10, 10) ∷ (14, 14) ∷ (30, 30) ∷ []) ∷ ((12, 12) ∷ (25, 25) ∷ (40, 40) ∷ []) ∷ [])
+    ∷ one (1 ∷ 3 ∷ []) ((15, 15) ∷ (50, 50) ∷ [])
+    ∷ one (2 ∷ 3 ∷ []) ((45, 45) ∷ (60, 60) ∷ []) ∷ [])
+
+-- Y the other way round: two trips of one route, and a ride to each of its first stops
+unfoldable pub Z : Net
+unfolding of-routes
+Z =
+    of-routes 4
+    (route (0 ∷ 1 ∷ 2 ∷ []) (((10, 10) ∷ (20, 20) ∷ (30, 30) ∷ []) ∷ ((12, 12) ∷ (25, 25) ∷ (40, 40) ∷ []) ∷ [])
+    ∷ one (3 ∷ 0 ∷ []) ((2, 2) ∷ (5, 5) ∷ [])
+    ∷ one (3 ∷ 1 ∷ []) ((2, 2) ∷ (22, 22) ∷ []) ∷ [])
+
+-- a trip that waits at its second stop, and a ride to that stop which comes while it waits
+unfoldable pub K : Net
+unfolding of-routes
+K =
+    of-routes 4
+    (one (0 ∷ 1 ∷ 2 ∷ []) ((10, 10) ∷ (15, 20) ∷ (30, 30) ∷ [])
+    ∷ one (3 ∷ 0 ∷ []) ((2, 2) ∷ (5, 5) ∷ [])
+    ∷ one (3 ∷ 1 ∷ []) ((2, 2) ∷ (18, 18) ∷ []) ∷ [])
+
 -- a trip from the first moment to the last
 unfoldable pub L : Net
 unfolding of-routes

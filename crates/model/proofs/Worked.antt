@@ -32,6 +32,8 @@
 --   no target test in arrivals                                         X3′
 --   boarding by arrival, the first trip                                X2, X12, X19, T1
 --   the last trip in arrivals                                          T1
+--   who is aboard changes trip where the label allows it, else not     U1; Y1, Z1
+--   if none, stay                                                      K1
 --   no footpath before a ride                                          X22
 --   footpaths from the labels that the rides left                      X1, X21, E4
 --   transfers before walks                                             X7
@@ -65,7 +67,7 @@ use Rattle.model.specs.Bytes.{write, read, readFrom, firstLeg, uncut, le
 use Rattle.model.specs.Answer.{Given, given, givenRead, answer, searched, legsOf}
 use Rattle.model.specs.Left.{Workspace, placed, workspaceOf, written, journeyLeft}
 use Rattle.model.proofs.Examples.{N, M, ask, departing, arriving, says, found, refused}
-use Rattle.model.proofs.Networks.{route, foot, line, X1, X2, X3, X3′, X5, X6, X7, X8a, X8b, X9a, X9b, X10, X11, X12, X17, X18, X19, X21, X22, X23, P, C, D, W, T, L, F, O}
+use Rattle.model.proofs.Networks.{route, foot, line, X1, X2, X3, X3′, X5, X6, X7, X8a, X8b, X9a, X9b, X10, X11, X12, X17, X18, X19, X21, X22, X23, P, C, D, W, T, U, Y, Z, K, L, F, O}
 
 -- The form of the list
 
@@ -237,6 +239,13 @@ pub worked :
     ∷ says T (arriving 0 1 30) 100 is found 12 0 0 21
     ∷ says T (arriving 0 1 24) 100 is found 10 0 0 21
     ∷ says T (arriving 0 1 19) 100 is refused 10 0
+    -- U1: who is aboard in an arrival search changes to a later trip; Y1: not where the label is before the trip's arrival; Z1: nor in a
+    -- departure search where it is after the trip's departure
+    ∷ says U (arriving 0 1 30) 100 is found 12 0 0 21
+    ∷ says Y (arriving 0 3 60) 100 is found 12 0 1 42
+    ∷ says Z (departing Source 3 2 1) 100 is found 30 2 1 42
+    -- K1: who is aboard and finds no trip stays
+    ∷ says K (departing Source 3 2 1) 100 is found 30 2 1 42
     -- F1: the first position of a stop in departures; the proposal at a position comes before the boarding there
     ∷ says F (departing Source 0 1 5) 100 is found 20 1 0 21
     ∷ says F (departing Source 0 0 5) 100 is found 30 0 0 21
@@ -265,6 +274,10 @@ pub worked :
     -- T1: which trip
     ∷ legsOf T (departing Source 0 1 10) is (ride 0 1 0 10 20 ∷ [])
     ∷ legsOf T (arriving 0 1 30) is (ride 0 1 1 12 25 ∷ [])
+    -- U1, Y1 and Z1: which trip
+    ∷ legsOf U (arriving 0 1 30) is (ride 0 1 1 12 25 ∷ [])
+    ∷ legsOf Y (arriving 0 3 60) is (ride 0 2 1 12 40 ∷ ride 2 3 3 45 60 ∷ [])
+    ∷ legsOf Z (departing Source 3 2 1) is (ride 3 0 2 2 5 ∷ ride 0 2 0 10 30 ∷ [])
     -- F1: where the same trip is met again it is boarded there
     ∷ legsOf F (departing Source 0 2 5) is (ride 0 2 0 30 40 ∷ [])
     ∷ legsOf F (departing Source 0 0 5) is (ride 0 0 0 10 30 ∷ [])
@@ -344,5 +357,5 @@ pub worked :
       goals = 0 ∷ [];
     }
     ∷ [])
-unfolding says departing arriving leaving coming found refused unread N M X1 X2 X3 X3′ line X5 X6 X7 X8a X8b X9a X9b X10 X11 X12 X17 X18 X19 X21 X22 X23 P C D W T L F O ride transfer walk walkSpans transferSpan placed workspaceOf written journeyLeft givenRead read readFrom firstLeg uncut legIn legAt u32At before
+unfolding says departing arriving leaving coming found refused unread N M X1 X2 X3 X3′ line X5 X6 X7 X8a X8b X9a X9b X10 X11 X12 X17 X18 X19 X21 X22 X23 P C D W T U Y Z K L F O ride transfer walk walkSpans transferSpan placed workspaceOf written journeyLeft givenRead read readFrom firstLeg uncut legIn legAt u32At before
 worked = (refl, refl, refl, refl, refl)
