@@ -72,10 +72,10 @@ module _ (t : List ℕ) (q : Query) (w y p j : List ℕ) {n : Needed} (e : n ≡
             refused = λ k g. let z : _≡_ {A = ℕ} 0 1 = cc in absurd (omega arith);
             large = λ a′ b′ c′ g h. let i = room-enough in let z : _≡_ {A = ℕ} 0 1 = cc in absurd (omega arith);
             solved = λ a′ b′ c′ g h.
-            let ea : a ≡ a′ = cc in
-            let eb : b ≡ b′ = cc in
-            let ec : c ≡ c′ = cc in
-            (r, refl, rw (← ea, ← eb, ← ec) s);
+                let ea : a ≡ a′ = cc in
+                let eb : b ≡ b′ = cc in
+                let ec : c ≡ c′ = cc in
+                (r, refl, rw (← ea, ← eb, ← ec) s);
           }
 
           pub tells-solved : {r : Answer} {w₁ y₁ p₁ j₁ : List ℕ} → Solved t q (take a w) (take b y) (take c p) j r w₁ y₁ p₁ j₁

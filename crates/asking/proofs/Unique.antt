@@ -17,9 +17,9 @@ use Rattle.asking.specs.Tells.{enough, Untouched, SolvedIn, Tells}
 whole : (k : ℕ) (u v : List ℕ) → take k u ≡ take k v → drop k u ≡ drop k v → u ≡ v
 whole k u v a b =
     sym (take-append-drop k u)
-        ∙ ap (λ (x : List ℕ). x ++ drop k u) a
-        ∙ ap (λ (x : List ℕ). take k v ++ x) b
-        ∙ take-append-drop k v
+    ∙ ap (λ (x : List ℕ). x ++ drop k u) a
+    ∙ ap (λ (x : List ℕ). take k v ++ x) b
+    ∙ take-append-drop k v
 
 abbrev Same : Told → Told → List ℕ → List ℕ → List ℕ → List ℕ → List ℕ → List ℕ → List ℕ → List ℕ → Type 0
 Same r r′ w₁ y₁ p₁ j₁ w₂ y₂ p₂ j₂ = (r ≡ r′) × (w₁ ≡ w₂) × (y₁ ≡ y₂) × (p₁ ≡ p₂) × (j₁ ≡ j₂)

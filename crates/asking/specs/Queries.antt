@@ -36,6 +36,7 @@ walksOf word = cond (eqb word 0) Barred (cond (eqb word 1) Allowed Unsaid)
 unfoldable pub modeOf : ℕ → Mode
 modeOf word = cond (eqb word 114) Rescan Source
 
+-- a query where each of its parts is one
 unfoldable pub between : Place → Place → When → Walks → Mode → Asked
 between (At f) (At t) (AtTime c) w m = Query (record { from = f; to = t; time = c; walks = w; mode = m })
 between (At f) (At t) Never w m = Nothing
@@ -45,4 +46,5 @@ between Nowhere t c w m = Nothing
 unfoldable pub queryIn : List ℕ → ℕ → Asked
 queryIn l how =
     cond (ltb (length l) 7) Nothing
-    (between (placeOf (getD l 0 0) (getD l 1 0)) (placeOf (getD l 2 0) (getD l 3 0)) (momentOf (getD l 4 0) (getD l 5 0)) (walksOf (getD l 6 0)) (modeOf how))
+    (between (placeOf (getD l 0 0) (getD l 1 0)) (placeOf (getD l 2 0) (getD l 3 0)) (momentOf (getD l 4 0) (getD l 5 0))
+    (walksOf (getD l 6 0)) (modeOf how))
