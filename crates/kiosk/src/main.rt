@@ -19,7 +19,7 @@ fn answer(tables: &[u32], path: &[u8], asked: Question) {
     let mut journey = [0u8; 4096];
     let q = asked.query;
     let told = asking::ask(tables, &mut words, &mut marks, &mut places, &mut journey, q);
-    telling::tell(tables, path, &mut places, &journey, told, asked);
+    telling::tell(tables, path, &journey, told, asked);
 }
 
 // The query on the network that is built in.

@@ -71,8 +71,8 @@ fn print_station(tables: &[u32], name: &[u8], s: u32)
     }
 }
 
-// The stops of an area.
-fn print_area(tables: &[u32], places: &mut [u32], name: &[u8], a: u32)
+// The stops of an area, which go through `places`.
+fn print_area_in(tables: &[u32], places: &mut [u32], name: &[u8], a: u32)
     requires { ⌜ Accepted (now tables) ⌝ }
     requires { ⌜ a < netOf (now tables) .areas ⌝ }
 {
@@ -91,7 +91,16 @@ fn print_area(tables: &[u32], places: &mut [u32], name: &[u8], a: u32)
     print::text(b".\n");
 }
 
-fn print_place(tables: &[u32], places: &mut [u32], name: &[u8], l: Location)
+// The stops of an area. A program that could ask for its journey has tables of at most 128 stops.
+fn print_area(tables: &[u32], name: &[u8], a: u32)
+    requires { ⌜ Accepted (now tables) ⌝ }
+    requires { ⌜ a < netOf (now tables) .areas ⌝ }
+{
+    let mut places = [0u32; 128];
+    print_area_in(tables, &mut places, name, a);
+}
+
+fn print_place(tables: &[u32], name: &[u8], l: Location)
     requires { ⌜ Accepted (now tables) ⌝ }
 {
     match l {
@@ -102,19 +111,19 @@ fn print_place(tables: &[u32], places: &mut [u32], name: &[u8], l: Location)
         }
         Location::Area(a) => {
             if a < repository::places::area_count(tables) {
-                print_area(tables, places, name, a);
+                print_area(tables, name, a);
             }
         }
     }
 }
 
 // Which stops were meant.
-pub fn print_meant(tables: &[u32], places: &mut [u32], q: Query) {
+pub fn print_meant(tables: &[u32], q: Query) {
     let from = q.from;
     let to = q.to;
     if raptor::check(tables) == 0 {
-        print_place(tables, places, b"From", from);
-        print_place(tables, places, b"To", to);
+        print_place(tables, b"From", from);
+        print_place(tables, b"To", to);
     }
 }
 

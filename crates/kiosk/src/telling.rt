@@ -106,14 +106,7 @@ fn print_rides(rides: usize) {
 }
 
 // A journey's two ends, then which stops were meant, then each leg.
-fn print_journey(
-    tables: &[u32],
-    places: &mut [u32],
-    bytes: &[u8],
-    round: u32,
-    q: Query,
-    midnight: u32,
-) {
+fn print_journey(tables: &[u32], bytes: &[u8], round: u32, q: Query, midnight: u32) {
     let next = journey::read_leg(bytes, 0);
     let LegRead::Whole(first) = next else {
         return;
@@ -128,14 +121,13 @@ fn print_journey(
     print::text(b", round ");
     print::number(round as u64);
     print::text(b".\n");
-    meant::print_meant(tables, places, q);
+    meant::print_meant(tables, q);
     print_legs(bytes, midnight);
 }
 
 // The journey that the buffer's first `length` bytes are.
 fn print_found(
     tables: &[u32],
-    places: &mut [u32],
     journey: &[u8],
     length: usize,
     round: u32,
@@ -145,7 +137,7 @@ fn print_found(
     if journey.len() < length {
         return;
     }
-    print_journey(tables, places, &journey[..length], round, q, midnight);
+    print_journey(tables, &journey[..length], round, q, midnight);
 }
 
 // What a number of the tables means, in document 01's words.
@@ -216,15 +208,8 @@ fn print_no_route(time: TimeConstraint) {
     }
 }
 
-// The answer; the journey stands in `journey`, the tables are those of the file at `path`, and the places are free.
-pub fn tell(
-    tables: &[u32],
-    path: &[u8],
-    places: &mut [u32],
-    journey: &[u8],
-    told: Told,
-    asked: Question,
-) {
+// The answer; the journey stands in `journey`, the tables are those of the file at `path`.
+pub fn tell(tables: &[u32], path: &[u8], journey: &[u8], told: Told, asked: Question) {
     let q = asked.query;
     let time = q.time;
     let midnight = asked.midnight;
@@ -240,11 +225,11 @@ pub fn tell(
             stop: _,
             round,
             length,
-        } => print_found(tables, places, journey, length, round, q, midnight),
+        } => print_found(tables, journey, length, round, q, midnight),
         Answer::Refused(number) => print_refusal(tables, path, number, q, midnight),
         Answer::NoRouteFound => {
             print_no_route(time);
-            meant::print_meant(tables, places, q);
+            meant::print_meant(tables, q);
         }
         Answer::FailedToBuildRoute => print::text(b"11: a chosen stop but no leg\n"),
         Answer::TooLong(length) => {

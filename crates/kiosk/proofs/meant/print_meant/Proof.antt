@@ -19,9 +19,6 @@ slice-aggregate-print-place-2 c = search needs
 print-place-requires-2 : tie.Need-print-place-requires-2
 print-place-requires-2 c κs = search (needs, zero-accepted)
 
-same-length : tie.Need-same-length
-same-length c = search needs
-
 returns : tie.Need-returns
 returns c = search needs
 
@@ -37,6 +34,5 @@ print-meant-spec =
     print-place-requires
     slice-aggregate-print-place-2
     print-place-requires-2
-    same-length
     returns
     returns-2)

@@ -13,13 +13,9 @@ slice-aggregate-print-journey c = search (needs, part-long)
 print-journey-requires : tie.Need-print-journey-requires
 print-journey-requires c κs = search needs
 
-same-length : tie.Need-same-length
-same-length c = search needs
-
 returns-2 : tie.Need-returns-2
 returns-2 c = search needs
 
 pub print-found-spec : {M : Type 1} → statement M
 print-found-spec =
-    tie.close
-    (tie.spec returns slice-aggregate-print-journey print-journey-requires same-length returns-2)
+    tie.close (tie.spec returns slice-aggregate-print-journey print-journey-requires returns-2)

@@ -1,9 +1,9 @@
--- `kiosk::meant::print_area`: the stops of the area are a part of the places.
+-- `kiosk::meant::print_area_in`: the stops of the area are a part of the places.
 use borrow.Author.Needs.{needs}
 use Rattle.kiosk.proofs.Parts.{part-has}
 use Rattle.asking.proofs.Parts.{part-long}
-use Rattle.kiosk.proofs.meant.print_area.Statement.{statement}
-use Rattle.kiosk.proofs.meant.print_area.Tie as tie
+use Rattle.kiosk.proofs.meant.print_area_in.Statement.{statement}
+use Rattle.kiosk.proofs.meant.print_area_in.Tie as tie
 
 stop-count-requires : tie.Need-stop-count-requires
 stop-count-requires c κs = search needs
@@ -62,8 +62,8 @@ same-length-2 c = search needs
 returns-3 : tie.Need-returns-3
 returns-3 c = search needs
 
-pub print-area-spec : {M : Type 1} → statement M
-print-area-spec =
+pub print-area-in-spec : {M : Type 1} → statement M
+print-area-in-spec =
     tie.close
     (tie.spec
     stop-count-requires
