@@ -30,8 +30,7 @@ echo net 20 23 26 30 30 34 40 43 47 47 51 55 57 59 61 62 64 68 69 69 0 1 2 42949
 # M with no `net`, its words over many lines, each end of a line two bytes, and no end behind the last word
 cut -d' ' -f2- m | tr ' ' '\n' | sed 's/$/\r/' | awk 'NR > 1 { printf "\n" } { printf "%s", $0 }' >lines
 # one stop and one area
-printf 'stops 1\narea 0\n' >stop1.txt
-"$root/tools/timetable.py" stop1.txt >stop1
+echo net 20 21 22 24 24 26 26 27 29 29 31 31 32 32 33 33 34 34 36 37 0 4294967295 0 0 0 0 0 0 0 0 0 0 0 0 0 1 0 >stop1
 cp "$root/examples/N.txt" timetable
 # N and the town with seconds added to every moment: words 16 and 17 say where the moments begin and end
 moved() { awk -v d="$1" '{ for (i = $18 + 2; i <= $19 + 1; i++) $i += d; print }' "$2"; }
@@ -378,7 +377,7 @@ says() { grep -Fqx "$1" said || { echo "./kiosk does not say: $1"; cat said; exi
 asks=0
 script=$root/kiosk
 asked 0 output 0 4 depart 50
-head -n 1 said | grep -q '^Leave stop 0 ' || exit 1
+says 'Leave stop 0 at 0:01:40, arrive at stop 4 at 0:07:30: 2 rides, round 1.'
 asked 1 error 0 4 depart 401
 says "$departs"
 asked 1 error 5 4 depart 50
@@ -392,7 +391,7 @@ asked 2 error 0 4
 says 'depart|arrive: is not given'
 asked 2 error 0 4 depart 7:30
 asked 2 error 0 4 depart 50 fast
-[ "$(tail -n 1 said)" = "$usage" ] || exit 1
+says "$usage"
 asked 2 error
 says "$usage"
 asked 0 output --help

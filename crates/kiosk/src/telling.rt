@@ -126,14 +126,7 @@ fn print_journey(tables: &[u32], bytes: &[u8], round: u32, q: Query, midnight: u
 }
 
 // The journey that the buffer's first `length` bytes are.
-fn print_found(
-    tables: &[u32],
-    journey: &[u8],
-    length: usize,
-    round: u32,
-    q: Query,
-    midnight: u32,
-) {
+fn print_found(tables: &[u32], journey: &[u8], length: usize, round: u32, q: Query, midnight: u32) {
     if journey.len() < length {
         return;
     }
