@@ -3,4 +3,5 @@ pub mod Told
 pub mod Rooms
 pub mod Reading
 pub mod Unique
+pub mod Found
 pub mod ReadBack

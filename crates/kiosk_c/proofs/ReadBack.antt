@@ -1,29 +1,25 @@
 -- "Journeys are written to bytes and read back unchanged", for a caller who walks the bytes by `kiosk_leg`.
-use Prim.Native.Nat.{ℕ, zero, suc}
-use mathlib.Core.Path.{_≡_, refl, sym, _∙_}
-use mathlib.Core.List.{List}
-use native.Mathlib.Omega.{arith}
-use native.Mathlib.Decide.{decLt}
-use lib.ListN.{length, getD, take}
-use borrow.Author.Tests.{ne-eqb}
+use Prim.Native.Nat.{ℕ}
+use mathlib.Core.Path.{_≡_, refl, sym}
+use mathlib.Core.List.{List, [], _∷_}
+use lib.ListN.{getD, take, drop}
 use Rattle.shared.specs.declared.Time.{Time}
 use Rattle.model.specs.declared.Answer.{Answer}
 use Rattle.model.specs.declared.Answer.the-variants.{Found}
 use Rattle.model.specs.declared.Leg.{Leg}
 use Rattle.model.specs.declared.Query.{Query}
-use Rattle.model.specs.Answer.{legsOf, given}
+use Rattle.model.specs.Answer.{legsOf}
 use Rattle.model.specs.Bytes.{legs, read}
 use Rattle.repository.specs.NetOf.{netOf}
-use Rattle.repository.specs.Checked.{checkOf}
 use Rattle.raptor.specs.Solved.{Solved}
-use Rattle.raptor.proofs.Promises.{number-0, reads-back}
+use Rattle.raptor.proofs.Promises.{reads-back}
 use Rattle.journey.specs.Reading.{legFrom}
 use Rattle.journey.specs.Legs.{LegsFrom, over as no-more, next as one-more}
 use Rattle.journey.proofs.Legs.{legs-from}
-use Rattle.kiosk_words.specs.Words.{toldIn}
-use Rattle.kiosk_c.specs.Face.{shortNumber, Faced}
+use Rattle.kiosk_c.specs.Face.{Faced}
 use Rattle.kiosk_c.specs.Legs.{FaceLegsFrom, over, next}
 use Rattle.kiosk_c.proofs.Reading.{whole-number, whole-left, end-number, end-left}
+use Rattle.kiosk_c.proofs.Found.{faced-found}
 
 -- what the program's reader gives, `kiosk_leg` tells
 told : {b : List ℕ} {at : ℕ} {gs : List Leg} → LegsFrom b at gs → FaceLegsFrom b at gs
@@ -35,25 +31,12 @@ told {b} {at} (one-more g e r) =
 pub face-legs-from : (b : List ℕ) (gs : List Leg) → read b ≡ legs gs → FaceLegsFrom b 0 gs
 face-legs-from b gs e = told (legs-from b gs e)
 
--- an answer that is too short for its words is never told by 0
-short-some : (fault : ℕ) → shortNumber fault ≡ 0 → ⊥
-unfolding shortNumber
-short-some zero e = omega arith
-short-some (suc k) e = let f : suc k ≡ 0 = rw (ne-eqb (suc k) 0 (λ g. omega arith)) at e in omega arith
-
--- ---- where `kiosk_solve` gives 0, as many bytes of the journey as its answer's length says are walked as the legs of the search
+-- where `kiosk_solve` gives 0, as many bytes of the journey as its answer's length says are walked as the legs of the search
 module _ (t : List ℕ) (q : Query) (w y p j a : List ℕ) where
-  walked : {x : Answer} {w′ y′ p′ j′ a′ : List ℕ} {time : Time} {s k z : ℕ} → Solved t q w y p j x w′ y′ p′ j′ → a′ ≡ toldIn (given x) a
-      → x ≡ Found time s k z → FaceLegsFrom (take (getD a′ 4 0) j′) 0 (legsOf (netOf t) q)
-  unfolding given toldIn
-  walked {j′ = j′} {z = z} h e f = rw (e, f) (face-legs-from (take z j′) (legsOf (netOf t) q) (reads-back t q w y p j h f))
+  walked : {w′ y′ p′ j′ a′ : List ℕ} {time : Time} {s k z : ℕ} → Solved t q w y p j (Found time s k z) w′ y′ p′ j′
+      → a′ ≡ 0 ∷ time .0 ∷ s ∷ k ∷ z ∷ drop 5 a → FaceLegsFrom (take (getD a′ 4 0) j′) 0 (legsOf (netOf t) q)
+  walked {j′ = j′} {z = z} h e = rw e (face-legs-from (take z j′) (legsOf (netOf t) q) (reads-back t q w y p j h refl))
 
   pub faced-legs : {r : ℕ} {w′ y′ p′ j′ a′ : List ℕ} → Faced t q w y p j a r w′ y′ p′ j′ a′ → r ≡ 0
       → FaceLegsFrom (take (getD a′ 4 0) j′) 0 (legsOf (netOf t) q)
-  faced-legs f e =
-      elim (decLt (length a) 5) [
-        | yes h ↦ absurd (short-some (checkOf t) (sym (f .short h .0) ∙ e))
-        | no h ↦
-            let x = f .solved (omega arith) in
-            walked (x .1) (x .3) (number-0 t q w y p j (x .1) (sym (x .2) ∙ e))
-      ]
+  faced-legs f e = let g = faced-found t q w y p j a f e in walked (g .4) (g .5)

@@ -1,6 +1,6 @@
 -- The six words of a leg.
 use Prim.Native.Nat.{ℕ, zero, suc, _≤_, _<_}
-use mathlib.Core.Path.{_≡_, refl}
+use mathlib.Core.Path.{_≡_, refl, ap}
 use mathlib.Core.List.{List, [], _∷_}
 use native.Mathlib.Omega.{arith}
 use lib.ListN.{length, drop, set, length-set}
@@ -54,3 +54,33 @@ module _ (g : Leg) where
       → m ≡ 3 ∷ g .from ∷ g .to ∷ 4_294_967_295 ∷ g .departure .0 ∷ g .arrival .0 ∷ drop 6 l → m ≡ legIn g l
   unfolding legIn kindByte tripWord
   walk-words e l f = rw e f
+
+-- ---- the six words tell the leg
+same-kind : (a b : LegType) → kindByte a ≡ kindByte b → tripWord a ≡ tripWord b → a ≡ b
+unfolding kindByte tripWord
+same-kind (Transit v) (Transit w) e f = ap Transit f
+same-kind (Transit v) Transfer e f = absurd (omega arith)
+same-kind (Transit v) Walk e f = absurd (omega arith)
+same-kind Transfer (Transit w) e f = absurd (omega arith)
+same-kind Transfer Transfer e f = refl
+same-kind Transfer Walk e f = absurd (omega arith)
+same-kind Walk (Transit w) e f = absurd (omega arith)
+same-kind Walk Transfer e f = absurd (omega arith)
+same-kind Walk Walk e f = refl
+
+-- two legs that are told alike are one leg
+pub told-apart : (g h : Leg) (l : List ℕ) → legIn g l ≡ legIn h l → g ≡ h
+unfolding legIn
+told-apart g h l e =
+    let kind : g .kind ≡ h .kind = same-kind (g .kind) (h .kind) (cc) (cc) in
+    let from : g .from ≡ h .from = cc in
+    let to : g .to ≡ h .to = cc in
+    let departure : g .departure .0 ≡ h .departure .0 = cc in
+    let arrival : g .arrival .0 ≡ h .arrival .0 = cc in
+    λ k. record {
+      from = from k;
+      to = to k;
+      departure = record { 0 = departure k };
+      arrival = record { 0 = arrival k };
+      kind = kind k;
+    }
