@@ -10,7 +10,8 @@ pub enum Place {
     Area(u32),
 }
 
-/// The moment of a query, in seconds, 1 to 1,000,000.
+/// The moment of a query, in seconds, 1 to 1,000,000. Where the loader added [`DAY`] to the timetable's moments, it is added here too, and taken off
+/// each moment that is shown.
 #[derive(Clone, Copy, Debug, PartialEq, Eq, Hash)]
 pub enum When {
     /// Leave no sooner than this.

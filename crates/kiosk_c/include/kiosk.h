@@ -39,8 +39,8 @@ extern "C" {
    more leaves it. Tables do not say for which version they were written: who keeps them in a file keeps this number beside them. */
 #define KIOSK_VERSION 1
 
-/* No journey takes more bytes, so a buffer of so many is never answered with KIOSK_TOO_LONG: theorem `length-most` of
-   crates/raptor/proofs/Promises.antt. */
+/* No journey takes more bytes (theorem `length-most` of crates/raptor/proofs/Promises.antt), so a buffer of so many is never answered with
+   KIOSK_TOO_LONG (theorem `never-too-long` of crates/kiosk_c/proofs/Enough.antt). */
 #define KIOSK_MOST_JOURNEY 69692
 
 #define KIOSK_DAY 86400                 /* what a loader adds to every moment of the timetable */

@@ -26,7 +26,7 @@ use Rattle.kiosk_words.specs.Words.{toldIn}
 use Rattle.kiosk_c.specs.Face.{shortNumber, Faced}
 
 -- what a search replies is no refusal
-unrefused : (room : ℕ) (g : Target) (gs : List Leg) (x : ℕ) → reply room g gs ≡ Refused x → ⊥
+pub unrefused : (room : ℕ) (g : Target) (gs : List Leg) (x : ℕ) → reply room g gs ≡ Refused x → ⊥
 unfolding reply replyTo
 unrefused room g gs x =
     cond-elim (λ a. a ≡ Refused x → ⊥) (eqb (g .time .0) 0) _ _ (λ b e. let z : _≡_ {A = ℕ} 0 1 = cc in omega arith) (λ b. to gs)
@@ -75,7 +75,7 @@ module _ (t : List ℕ) (q : Query) (w y p j a : List ℕ) where
 
   pub faced-found : {r : ℕ} {w′ y′ p′ j′ a′ : List ℕ} → Faced t q w y p j a r w′ y′ p′ j′ a′ → r ≡ 0
       → (time : Time) × (s : ℕ) × (k : ℕ) × (z : ℕ) × Solved t q w y p j (Found time s k z) w′ y′ p′ j′
-          × (a′ ≡ 0 ∷ time .0 ∷ s ∷ k ∷ z ∷ drop 5 a)
+      × (a′ ≡ 0 ∷ time .0 ∷ s ∷ k ∷ z ∷ drop 5 a)
   faced-found f e =
       elim (decLt (length a) 5) [
         | yes h ↦ absurd (short-some (checkOf t) (sym (f .short h .0) ∙ e))

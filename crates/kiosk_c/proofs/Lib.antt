@@ -5,3 +5,4 @@ pub mod Reading
 pub mod Unique
 pub mod Found
 pub mod ReadBack
+pub mod Enough

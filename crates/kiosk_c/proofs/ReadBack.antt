@@ -1,7 +1,8 @@
 -- "Journeys are written to bytes and read back unchanged", for a caller who walks the bytes by `kiosk_leg`.
-use Prim.Native.Nat.{ℕ}
-use mathlib.Core.Path.{_≡_, refl, sym}
+use Prim.Native.Nat.{ℕ, _+_}
+use mathlib.Core.Path.{_≡_, refl, sym, _∙_, subst}
 use mathlib.Core.List.{List, [], _∷_}
+use native.Mathlib.Omega.{arith}
 use lib.ListN.{getD, take, drop}
 use Rattle.shared.specs.declared.Time.{Time}
 use Rattle.model.specs.declared.Answer.{Answer}
@@ -9,13 +10,15 @@ use Rattle.model.specs.declared.Answer.the-variants.{Found}
 use Rattle.model.specs.declared.Leg.{Leg}
 use Rattle.model.specs.declared.Query.{Query}
 use Rattle.model.specs.Answer.{legsOf}
-use Rattle.model.specs.Bytes.{legs, read}
+use Rattle.model.specs.Bytes.{legs, read, legSize}
 use Rattle.repository.specs.NetOf.{netOf}
 use Rattle.raptor.specs.Solved.{Solved}
 use Rattle.raptor.proofs.Promises.{reads-back}
 use Rattle.journey.specs.Reading.{legFrom}
 use Rattle.journey.specs.Legs.{LegsFrom, over as no-more, next as one-more}
 use Rattle.journey.proofs.Legs.{legs-from}
+use Rattle.journey.proofs.Written.{least-size}
+use Rattle.kiosk_words.proofs.Legs.{told-apart}
 use Rattle.kiosk_c.specs.Face.{Faced}
 use Rattle.kiosk_c.specs.Legs.{FaceLegsFrom, over, next}
 use Rattle.kiosk_c.proofs.Reading.{whole-number, whole-left, end-number, end-left}
@@ -30,6 +33,20 @@ told {b} {at} (one-more g e r) =
 -- bytes that are read as the legs gs are walked as gs
 pub face-legs-from : (b : List ℕ) (gs : List Leg) → read b ≡ legs gs → FaceLegsFrom b 0 gs
 face-legs-from b gs e = told (legs-from b gs e)
+
+-- no bytes are walked as two lists of legs: at each offset six words of one leg are told, or the end
+module _ (b : List ℕ) where
+  abbrev six : List ℕ
+  six = 0 ∷ 0 ∷ 0 ∷ 0 ∷ 0 ∷ 0 ∷ []
+
+  pub walk-unique : {at : ℕ} {gs hs : List Leg} → FaceLegsFrom b at gs → FaceLegsFrom b at hs → gs ≡ hs
+  walk-unique (over e) (over f) = refl
+  walk-unique (over e) (next h f s) = absurd (omega (arith, e six (omega arith) .0, f six (omega arith) .0, least-size (h .kind)))
+  walk-unique (next g e r) (over f) = absurd (omega (arith, e six (omega arith) .0, f six (omega arith) .0, least-size (g .kind)))
+  walk-unique {at} (next g e r) (next {gs = hs} h f s) =
+      let one : g ≡ h = told-apart g h six (sym (e six (omega arith) .1) ∙ f six (omega arith) .1) in
+      let rest = walk-unique r (subst (λ (v : Leg). FaceLegsFrom b (at + legSize (v .kind)) hs) (sym one) s) in
+      cc
 
 -- where `kiosk_solve` gives 0, as many bytes of the journey as its answer's length says are walked as the legs of the search
 module _ (t : List ℕ) (q : Query) (w y p j a : List ℕ) where

@@ -37,7 +37,7 @@ pub extern "C" fn kiosk_leg(bytes: &[u8], at: usize, leg: &mut [u32]) -> u32
     ensures { λ _. ⌜ now (leg .exit) ≡ legLeft (legFrom (now (bytes .entry)) at) (now (leg .entry)) ⌝ }
 {
     if leg.len() < 6 {
-        return 6;
+        return 6; // no room for a leg
     }
     let next = journey::read_leg(bytes, at);
     match next {
