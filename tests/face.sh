@@ -13,7 +13,7 @@ for name in M town; do tools/timetable.py "examples/$name.txt" > "$out/$name.net
 
 # the library has no state of its own, and calls nothing but what fills and copies memory
 nm "$lib/libkiosk_c.a" | awk '
-    NF < 2 || $(NF - 1) ~ /^[rRtT]$/ || ($(NF - 1) == "U" && $NF ~ /^mem(set|cpy|move)$/) { next }
+    NF < 2 || $(NF - 1) ~ /^[nNrRtT]$/ || ($(NF - 1) == "U" && $NF ~ /^mem(set|cpy|move)$/) { next }
     { print "neither code nor a constant of the library: " $0; found = 1 }
     END { exit found }'
 
