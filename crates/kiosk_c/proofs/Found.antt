@@ -1,60 +1,22 @@
 -- "0 journey found": where the C face gives 0, the search found a journey, and the answer's five words are its own. So what is proved of
 -- `Found` is proved of a caller's 0.
 use Prim.Native.Nat.{ℕ, zero, suc}
-use mathlib.Core.Path.{_≡_, refl, sym, ap, _∙_, subst}
-use mathlib.Core.Bool.{Bool}
+use mathlib.Core.Path.{_≡_, sym, ap, _∙_, subst}
 use mathlib.Core.List.{List, [], _∷_}
 use native.Mathlib.Omega.{arith}
 use native.Mathlib.Decide.{decLt}
-use lib.Dec.{leb, eqb}
 use lib.ListN.{length, drop}
 use borrow.Author.Tests.{ne-eqb}
-use Rattle.base.specs.Choice.{cond-elim}
 use Rattle.shared.specs.declared.Time.{Time}
 use Rattle.model.specs.declared.Answer.{Answer}
-use Rattle.model.specs.declared.Answer.the-variants.{Found, Refused, NoRouteFound, FailedToBuildRoute, TooLong}
-use Rattle.model.specs.declared.Leg.{Leg}
+use Rattle.model.specs.declared.Answer.the-variants.{Found}
 use Rattle.model.specs.declared.Query.{Query}
-use Rattle.model.specs.declared.Target.{Target}
-use Rattle.model.specs.Tables.{Net}
-use Rattle.model.specs.Answer.{lowest, searched, legsOf, replyTo, reply, unless, answer, given}
-use Rattle.model.specs.Bytes.{sizeOf}
-use Rattle.repository.specs.NetOf.{netOf}
+use Rattle.model.specs.Answer.{given}
 use Rattle.repository.specs.Checked.{checkOf}
-use Rattle.raptor.specs.Solved.{sized, Solved}
+use Rattle.raptor.specs.Solved.{Solved}
+use Rattle.raptor.proofs.Promises.{number-0}
 use Rattle.kiosk_words.specs.Words.{toldIn}
 use Rattle.kiosk_c.specs.Face.{shortNumber, Faced}
-
--- what a search replies is no refusal
-pub unrefused : (room : ℕ) (g : Target) (gs : List Leg) (x : ℕ) → reply room g gs ≡ Refused x → ⊥
-unfolding reply replyTo
-unrefused room g gs x =
-    cond-elim (λ a. a ≡ Refused x → ⊥) (eqb (g .time .0) 0) _ _ (λ b e. let z : _≡_ {A = ℕ} 0 1 = cc in omega arith) (λ b. to gs)
-  where
-    to : (gs : List Leg) → replyTo room g gs ≡ Refused x → ⊥
-    to [] = λ e. let z : _≡_ {A = ℕ} 0 1 = cc in omega arith
-    to (v ∷ vs) =
-        cond-elim (λ a. a ≡ Refused x → ⊥) (leb (sizeOf (v ∷ vs)) room) _ _ (λ b e. let z : _≡_ {A = ℕ} 0 1 = cc in omega arith)
-        (λ b e. let z : _≡_ {A = ℕ} 0 1 = cc in omega arith)
-
--- an answer whose number is 0 is a journey: a refusal has another number
-module _ (fault : ℕ) (sized : Bool) (n : Net) (q : Query) (room : ℕ) where
-  found : (x : Answer) → x ≡ answer fault sized n q room → (given x) .number ≡ 0
-      → (time : Time) × (s : ℕ) × (k : ℕ) × (z : ℕ) × (x ≡ Found time s k z)
-  unfolding given answer unless
-  found (Found time s k z) e f = (time, s, k, z, refl)
-  found (Refused x) e f = absurd (go (lowest fault sized n q) refl)
-    where
-      go : (k : ℕ) → lowest fault sized n q ≡ k → ⊥
-      go zero g =
-          unrefused room ((searched n q) .times .target) (legsOf n q) x
-          (sym (e ∙ ap (unless Refused (reply room ((searched n q) .times .target) (legsOf n q))) g))
-      go (suc k) g =
-          let h : Refused x ≡ Refused (suc k) = e ∙ ap (unless Refused (reply room ((searched n q) .times .target) (legsOf n q))) g in
-          let i : x ≡ suc k = cc in omega arith
-  found NoRouteFound e f = absurd (omega arith)
-  found FailedToBuildRoute e f = absurd (omega arith)
-  found (TooLong z) e f = absurd (omega arith)
 
 -- an answer that is too short for its words is never told by 0
 short-some : (fault : ℕ) → shortNumber fault ≡ 0 → ⊥
@@ -81,6 +43,7 @@ module _ (t : List ℕ) (q : Query) (w y p j a : List ℕ) where
         | yes h ↦ absurd (short-some (checkOf t) (sym (f .short h .0) ∙ e))
         | no h ↦
             let x = f .solved (omega arith) in
-            let g = found (checkOf t) (sized (netOf t) w y p) (netOf t) q (length j) (x .0) (x .1 .answers) (sym (x .2) ∙ e) in
-            (g .0, g .1, g .2, g .3, solved-so (g .4) (x .1), told-so (g .4) (x .3))
+            let g = given (x .0) in
+            let n = number-0 t q w y p j (x .1) (sym (x .2) ∙ e) in
+            (record { 0 = g .time }, g .stop, g .round, g .length, solved-so n (x .1), told-so n (x .3))
       ]
