@@ -20,5 +20,5 @@ tools/fault.py "$room/town.net" >"$room/said"
 stands
 ./kiosk 1 7 depart 6:55:00 tables:"$room/town.net" >"$room/said"
 stands
-[ $lines -eq 8 ] || { echo "README.md: $lines lines were printed"; exit 1; }
+[ $lines -eq 9 ] || { echo "README.md: $lines lines were printed"; exit 1; }
 echo "README.md: its commands print what it says"

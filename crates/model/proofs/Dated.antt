@@ -17,7 +17,7 @@ use Rattle.model.specs.Back.{near, trace, inOrder, journey}
 use Rattle.model.specs.Journey.{Ridden, Walked, Timed, Chain, stay, ride-on, walk-on, Dated}
 use Rattle.model.specs.Sound.{Sound, Narrow, Asked}
 use Rattle.model.proofs.Reversed.{order-each}
-use Rattle.model.proofs.Trail.{far, nearAt, farAt, Goes, Trail, begin, rode, went}
+use Rattle.model.proofs.Trail.{far, nearAt, farAt, Goes, Trail, begin, rode, went, trail-in}
 use Rattle.model.proofs.Rides.{later}
 use Rattle.model.proofs.Journeys.{trail}
 
@@ -92,26 +92,12 @@ module _ (n : Net) (ok : Sound n) where
     behind Arrival g x h o p e = let y = o .onward in omega (arith, p refl)
 
     module _ (q : Task) (asked : Asked n q) where
-      near-in : (d : Direction) (walking : Bool) (g : Leg) → Walked n walking (near d g) (far d g) g → near d g < n .stops → far d g < n .stops
-      near-in Departure walking g w i = rw (w .leads) (ok .feet-in (g .kind) (g .from) (w .foot) i (w .listed))
-      near-in Arrival walking g w i = rw (w .leads) (ok .feet-in (g .kind) (g .to) (w .foot) i (w .listed))
-
-      ride-in : (d : Direction) (g : Leg) → Ridden n g → far d g < n .stops
-      ride-in Departure g r = rw (r .to) (ok .stops-in (r .route) (r .alights) (r .routes) (r .within))
-      ride-in Arrival g r = rw (r .from) (ok .stops-in (r .route) (r .boards) (r .routes) (omega (arith, r .onward, r .within)))
-
-      -- every stop that the search comes to is there
-      pub trail-in : {k s m : ℕ} {gs : List Leg} → Trail n q k s m gs → s < n .stops
-      trail-in (begin s i) = asked .starts-in s i
-      trail-in (rode g y r e h) = ride-in (q .direction) g r
-      trail-in (went g y w e h b) = near-in (q .direction) (q .walking) g w (rw e (trail-in y))
-
       pub trail-dated : {k s m : ℕ} {gs : List Leg} → Trail n q k s m gs → (q .direction ≡ Arrival → 0 < m) → Each Dated gs
       trail-dated (begin s i) p = nil
       trail-dated (rode g y r e h) p =
           let o = ride-dated g r in cons o (trail-dated y (behind (q .direction) g _ h o p))
       trail-dated (went g y w e h b) p =
-          let o = foot-dated (q .direction) (q .walking) g w (rw e (trail-in y)) b p in
+          let o = foot-dated (q .direction) (q .walking) g w (rw e (trail-in n ok q asked y)) b p in
           cons o (trail-dated y (behind (q .direction) g _ h o p))
 
       pub journey-dated : (o : Order) → Fair o → 0 < (search n q o) .times .target .time .0 → Each Dated (journey n q (search n q o))

@@ -127,5 +127,8 @@ pub roomy : (n : Net)
     ≡ true
 unfolding sized roomFor
 roomy n =
-    rw (eq-eqb _ _ (length-replicate {A = ℕ} (wordsRoom (n .stops) (n .routes)) 0), eq-eqb _ _ (length-replicate {A = ℕ} (marksRoom (n .stops) (n .routes)) 0),
-    eq-eqb _ _ (length-replicate {A = ℕ} (placesRoom (n .stops)) 0))
+    rw (
+      eq-eqb _ _ (length-replicate {A = ℕ} (wordsRoom (n .stops) (n .routes)) 0),
+      eq-eqb _ _ (length-replicate {A = ℕ} (marksRoom (n .stops) (n .routes)) 0),
+      eq-eqb _ _ (length-replicate {A = ℕ} (placesRoom (n .stops)) 0),
+    )
