@@ -70,9 +70,13 @@ held '4,097 bytes' 4097
 echo unreadable >"$room/expected"
 tests/run.sh showlegs <"$room" >"$room/printed"
 diff "$room/expected" "$room/printed" || { echo 'showlegs: a directory'; exit 1; }
-tests/run.sh showlegs <&- >"$room/printed"
-diff "$room/expected" "$room/printed" || { echo 'showlegs: a closed input'; exit 1; }
-runs=$((runs + 2))
+runs=$((runs + 1))
+# where an emulator runs it, the emulator's own files take the place of a closed input
+if [ "$(uname -m)" = x86_64 ]; then
+    tests/run.sh showlegs <&- >"$room/printed"
+    diff "$room/expected" "$room/printed" || { echo 'showlegs: a closed input'; exit 1; }
+    runs=$((runs + 1))
+fi
 
 # bytes that come in parts are one journey
 { ride 0 2 0 100 300; sleep 1; transfer 2 3 300 330; ride 3 4 2 350 450; } | tests/run.sh showlegs >"$room/printed"

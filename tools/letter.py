@@ -144,6 +144,10 @@ def starting(found, start):
     return next((v for k, v in found.items() if k.startswith(start)), "")
 
 
+def other_kit(found, kit):
+    return bare(starting(found, "the kit, which")) != kit.split()[0]
+
+
 def check():
     """What this tree can say of the letter without a proof."""
     text = open(LETTER, encoding="utf-8").read()
@@ -165,8 +169,10 @@ def check():
     kit = tool(RT, "version") if shutil.which(RT) else None
     if kit is None:
         print("no rt here: the kit is not looked up")
-    elif bare(starting(found, "the kit")) != kit.split()[0]:
-        wrong.append(f"the kit here is {kit.strip()}")
+    elif not bare(starting(found, "the sum of the kit's logic")).startswith(kit.split()[-1]):
+        wrong.append(f"the kit here is {kit.strip()}: another logic. Fill it in anew (tools/letter.py)")
+    elif other_kit(found, kit):
+        print(f"the kit here is {kit.split()[0]}, of the same logic; the letter is of what {bare(starting(found, 'the kit, which'))} proved and built")
     if starting(found, "our definitions") != definitions():
         wrong.append(f"our definitions are {definitions()}")
     for start, shape in (("the sum of the kit's logic", "[0-9a-f]{64}"), ("the sum of the library", "[0-9a-f]{64}"), ("the day", r"\d{4}-\d\d-\d\d")):
@@ -200,8 +206,10 @@ def proved():
             wrong.append(f"{name} is no program and assumes something: {last}")
     if not wrong and starting(found, "functions of the system") != assumed():
         wrong.append(f"what is assumed is: {assumed()}")
-    made = archive()
-    if made is None:
+    made, kit = archive(), tool(RT, "version")
+    if kit and other_kit(found, kit):
+        print("another kit built the archive that is signed for: its sum is not compared")
+    elif made is None:
         print("the archive is for x86-64 and is not built here: its sum is not compared")
     elif made != bare(starting(found, "the sum of the library")):
         wrong.append(f"the archive's sum is {made}")

@@ -2,7 +2,7 @@
 #include <pthread.h>
 #include "tables.h"
 
-enum { STACK_BYTES = 1 << 20, STACK_EDGE = 1 << 16, STACK_MOST = 4096 };
+enum { STACK_BYTES = 1 << 20, STACK_EDGE = 1 << 16, STACK_MOST = 1 << 14 };
 static struct {
     const tables *t;
     const lent *l;

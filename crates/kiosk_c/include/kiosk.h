@@ -15,7 +15,7 @@
 
    What is kept. Nothing: there is no global state, no heap, no file, no lock. So the functions may be called from several threads at once, each
    with a workspace, a journey and an answer of its own; the tables may be lent to all of them.
-   The stack that a call takes is small, but nothing is proved of it: tests/face.sh measures it on a thread's painted stack and fails at 4 KiB
+   The stack that a call takes is small, but nothing is proved of it: tests/face.sh measures it on a thread's painted stack and fails at 16 KiB
    (on x86-64 the most was 2,775 bytes, by kiosk_solve). Nor is anything proved of the time that a call takes.
 
    Places. A stop stands for its whole station: for its parent's children where it has a parent, else for its own children where it has any, else
