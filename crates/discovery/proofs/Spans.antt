@@ -7,8 +7,8 @@ use borrow.Author.Tests.{eq-eqb, ne-eqb}
 use Rattle.shared.specs.Walk.{walkingSpan}
 use Rattle.model.specs.Moments.{MAX}
 use Rattle.model.specs.Spans.{transferSpan, walkSpan}
+use Rattle.repository.specs.Sections.{transferStated, transferMetres, walkMetres}
 use Rattle.repository.specs.NetOf.{transferRow, walkRow}
-use Rattle.repository.specs.Rows.{transferStated, transferMetres, walkMetres}
 use Rattle.repository.proofs.Spans.{transfer-span, walk-span}
 
 module _ (w : List ℕ) (j : ℕ) {x : ℕ} where

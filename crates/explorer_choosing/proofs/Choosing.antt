@@ -12,9 +12,10 @@ use Rattle.model.specs.Tables.{Net}
 use Rattle.model.specs.Lists.{upto, setIn}
 use Rattle.model.specs.Choosing.{Chosen, firstOf, choose1, chooseAt, choose}
 use Rattle.model.specs.Work.{Work}
+use Rattle.repository.specs.Sections.{callRoute}
 use Rattle.repository.specs.Accepted.{Accepted}
 use Rattle.repository.specs.NetOf.{netOf}
-use Rattle.repository.specs.Rows.{calls, firstRow, pastRow, OfStop, rest, callRoute}
+use Rattle.repository.specs.Rows.{calls, firstRow, pastRow, OfStop, rest}
 use Rattle.repository.proofs.Lists.{calls-are}
 use Rattle.repository.proofs.Ranges.{of-stop, route-known}
 use Rattle.allocator.specs.Layout.{view, markOf}

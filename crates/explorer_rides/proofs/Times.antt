@@ -10,8 +10,9 @@ use Rattle.model.specs.declared.LegType.the-variants.{Transit}
 use Rattle.model.specs.Legs.{legOf}
 use Rattle.model.specs.Rides.{reach, leave}
 use Rattle.model.specs.Work.{Work}
+use Rattle.repository.specs.Sections.{arrivalIn, departureIn}
 use Rattle.repository.specs.NetOf.{netOf}
-use Rattle.repository.specs.Rows.{timeRow, arrivalIn, departureIn}
+use Rattle.repository.specs.Rows.{timeRow}
 use Rattle.repository.proofs.Trips.{arrival-is, departure-is}
 use Rattle.allocator.specs.Operations.{applied}
 use Rattle.explorer_rides.specs.declared.Ride.{Ride}

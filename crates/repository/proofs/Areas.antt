@@ -11,7 +11,7 @@ use Rattle.base.specs.Distinct.{Distinct, empty, front, distinct-short}
 use Rattle.model.specs.Lists.{gather}
 use Rattle.model.specs.Tables.{Net}
 use Rattle.model.specs.Places.{servedOf, stopsOfArea}
-use Rattle.repository.specs.Sections.{sec}
+use Rattle.repository.specs.Sections.{sec, STATIONS, CHILDREN, AREA-STOPS}
 use Rattle.repository.specs.NetOf.{count, listOf, netOf}
 use Rattle.repository.specs.Accepted.{Accepted}
 use Rattle.repository.proofs.Rooms.{child-of-stop, stop-of-area}
@@ -67,25 +67,25 @@ each-at (cons p h) (suc i) g = each-at h i (omega arith)
 
 module _ {w : List ℕ} (h : Accepted w) where
   module _ {s : ℕ} (i : s < netOf w .stops) where
-    children-of : Each (λ c. sec w 1 c ≡ s) (netOf w .children s)
+    children-of : Each (λ c. sec w STATIONS c ≡ s) (netOf w .children s)
     unfolding netOf listOf count
     children-of =
         let t = child-of-stop (h .laid) i in
-        tab-each (λ (c : ℕ). sec w 1 c ≡ s) (sec w 3) _ _
+        tab-each (λ (c : ℕ). sec w STATIONS c ≡ s) (sec w CHILDREN) _ _
         (λ j l g. h .listed .child-of s j i (record { from = l; to = omega (arith, t .entry .rise) }))
 
     children-known : Each (λ c. c < netOf w .stops) (netOf w .children s)
     unfolding netOf listOf count
     children-known =
         let t = child-of-stop (h .laid) i in
-        tab-each (λ (c : ℕ). c < netOf w .stops) (sec w 3) _ _
+        tab-each (λ (c : ℕ). c < netOf w .stops) (sec w CHILDREN) _ _
         (λ j l g. h .listed .child-in s j i (record { from = l; to = omega (arith, t .entry .rise) }))
 
     children-once : Distinct (netOf w .children s)
     unfolding netOf listOf count
     children-once =
         let t = child-of-stop (h .laid) i in
-        tab-distinct (sec w 3) _ _ (λ j k l g m. h .listed .child-once j k g (omega (arith, t .entry .rise, t .within)))
+        tab-distinct (sec w CHILDREN) _ _ (λ j k l g m. h .listed .child-once j k g (omega (arith, t .entry .rise, t .within)))
 
     pub child-known : (j : ℕ) → j < length (netOf w .children s) → getD (netOf w .children s) j 0 < netOf w .stops
     child-known = each-at children-known
@@ -95,7 +95,7 @@ module _ {w : List ℕ} (h : Accepted w) where
     unfolding netOf listOf count
     named-known =
         let t = stop-of-area (h .laid) i in
-        tab-each (λ (s : ℕ). s < netOf w .stops) (sec w 18) _ _
+        tab-each (λ (s : ℕ). s < netOf w .stops) (sec w AREA-STOPS) _ _
         (λ j l g. h .listed .area-in j (omega (arith, t .entry .rise, t .within)))
 
     pub named-stop : (j : ℕ) → j < length (netOf w .areaStops a) → getD (netOf w .areaStops a) j 0 < netOf w .stops
@@ -105,7 +105,7 @@ module _ {w : List ℕ} (h : Accepted w) where
     unfolding netOf listOf count
     named-once =
         let t = stop-of-area (h .laid) i in
-        tab-distinct (sec w 18) _ _
+        tab-distinct (sec w AREA-STOPS) _ _
         (λ j k l g m. h .listed .area-once a j k i (record {
           from =
               l;
@@ -121,7 +121,7 @@ module _ {w : List ℕ} (h : Accepted w) where
     pub area-once : Distinct (stopsOfArea (netOf w) a)
     unfolding stopsOfArea
     area-once =
-        gather-distinct (λ s. servedOf (netOf w) (netOf w .children s)) (sec w 1) (λ s. s < netOf w .stops)
+        gather-distinct (λ s. servedOf (netOf w) (netOf w .children s)) (sec w STATIONS) (λ s. s < netOf w .stops)
         (λ s l. served-each (netOf w) (children-of l)) (λ s l. served-distinct (netOf w) (children-once l))
         named-known named-once
 

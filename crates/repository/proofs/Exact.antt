@@ -9,10 +9,10 @@ use borrow.Author.Tests.{eq-eqb, ne-eqb}
 use Rattle.model.specs.Lists.{upto}
 use Rattle.model.specs.Tables.{Net}
 use Rattle.model.specs.Choosing.{firstOf}
-use Rattle.repository.specs.Sections.{sec}
+use Rattle.repository.specs.Sections.{sec, CALL-STARTS, callRoute, callFirst}
 use Rattle.repository.specs.NetOf.{netOf}
 use Rattle.repository.specs.Accepted.{Called, Accepted}
-use Rattle.repository.specs.Rows.{calls, startsOf, firstRow, pastRow, OfStop, rest, callRoute, callFirst}
+use Rattle.repository.specs.Rows.{calls, startsOf, firstRow, pastRow, OfStop, rest}
 use Rattle.repository.proofs.Tabs.{Ascending, tab-ascends}
 use Rattle.repository.proofs.Lists.{calls-are, rest-said, rest-says}
 use Rattle.repository.proofs.Ranges.{under, of-stop, route-known, position-known}
@@ -34,15 +34,15 @@ record Row (w : List ℕ) (s r p : ℕ) : Type 0 where
 module _ {w : List ℕ} (h : Accepted w) {s : ℕ} where
   -- the routes of a stop's rows ascend
   climbs : (d i : ℕ) → OfStop calls w s i → i + suc d < pastRow calls w s → callRoute w i < callRoute w (i + suc d)
-  unfolding netOf startsOf firstRow pastRow callRoute
+  unfolding netOf startsOf firstRow pastRow
   climbs d i o l = by d l
     where
-      next : (j : ℕ) → sec w 4 s ≤ j → j + 1 < sec w 4 (s + 1) → sec w 5 (j * 3) < sec w 5 ((j + 1) * 3)
+      next : (j : ℕ) → sec w CALL-STARTS s ≤ j → j + 1 < sec w CALL-STARTS (s + 1) → callRoute w j < callRoute w (j + 1)
       next j f g =
           let back : j + 1 - 1 ≡ j = omega arith in
           rw back at (h .listed .call-rise s (j + 1) (o .stop) (omega arith) g)
 
-      by : (d : ℕ) → i + suc d < sec w 4 (s + 1) → sec w 5 (i * 3) < sec w 5 ((i + suc d) * 3)
+      by : (d : ℕ) → i + suc d < sec w CALL-STARTS (s + 1) → callRoute w i < callRoute w (i + suc d)
       by zero g = next i (o .from) g
       by (suc d) g =
           let more : i + suc (suc d) ≡ i + suc d + 1 = omega arith in
@@ -64,7 +64,7 @@ module _ {w : List ℕ} (h : Accepted w) {s : ℕ} where
   -- each position of the stop in a route has such a row
   called : s < netOf w .stops → {r p : ℕ} → r < netOf w .routes → p < netOf w .positions r → netOf w .stopAt r p ≡ s
       → Row w s r p
-  unfolding netOf startsOf firstRow pastRow callRoute callFirst
+  unfolding netOf startsOf firstRow pastRow
   called i {r} {p} hr hp e =
       let c : Called w r p s = rw e at (h .listed .call-all r p hr hp) in
       record {
@@ -76,7 +76,7 @@ module _ {w : List ℕ} (h : Accepted w) {s : ℕ} where
 
   module _ {j : ℕ} (o : OfStop calls w s j) where
     at-first : netOf w .stopAt (callRoute w j) (callFirst w j) ≡ s
-    unfolding netOf callRoute callFirst startsOf
+    unfolding netOf startsOf
     at-first = h .listed .call-first s j (o .stop) (under calls o)
 
     before-first : (p : ℕ) → p < callFirst w j → netOf w .stopAt (callRoute w j) p ≡ s → ⊥

@@ -6,12 +6,12 @@ use native.Mathlib.Omega.{arith}
 use native.Mathlib.Nat.{add-assoc}
 use lib.ListN.{length, take, drop}
 use Rattle.base.specs.Tab.{tab, tab-part}
-use Rattle.repository.specs.Sections.{start, sec}
+use Rattle.repository.specs.Sections.{start, sec, SECTIONS}
 use Rattle.repository.specs.Laid.{Laid}
 use Rattle.repository.specs.Entries.{Entry, Part}
 use Rattle.repository.proofs.Rooms.{room, part-room}
 
-pub head-rise : {w : List ℕ} (k : ℕ) {a b : ℕ} → Laid w → k < 19 → b ≡ start w (k + 1) → a ≡ start w k → a ≤ b
+pub head-rise : {w : List ℕ} (k : ℕ) {a b : ℕ} → Laid w → k < SECTIONS → b ≡ start w (k + 1) → a ≡ start w k → a ≤ b
 head-rise k h g e f = omega (arith, h .rise k g)
 
 module _ {w : List ℕ} {k i : ℕ} (h : Laid w) (t : Entry w k i) where

@@ -5,8 +5,9 @@ use mathlib.Core.List.{List, [], _∷_, List·Memᴰ}
 use native.Mathlib.Omega.{arith}
 use native.Mathlib.Numerals.{add-one}
 use Rattle.base.specs.Tab.{tab}
+use Rattle.repository.specs.Sections.{callRoute}
 use Rattle.repository.specs.NetOf.{count, listOf, transferRow, walkRow, netOf}
-use Rattle.repository.specs.Rows.{calls, transfers, walks, startsOf, firstRow, pastRow, rest, callRoute}
+use Rattle.repository.specs.Rows.{calls, transfers, walks, startsOf, firstRow, pastRow, rest}
 use Rattle.repository.proofs.Tabs.{Said, tab-said, tab-says}
 
 -- ---- the rows from j up to b: one more, and none
@@ -24,7 +25,7 @@ module _ {A : Type 0} (f : ℕ → A) where
 
 module _ (w : List ℕ) (s : ℕ) {a b : ℕ} where
   pub calls-are : a ≡ firstRow calls w s → b ≡ pastRow calls w s → netOf w .routesOf s ≡ rest (callRoute w) a b
-  unfolding netOf listOf count rest firstRow pastRow startsOf callRoute
+  unfolding netOf listOf count rest firstRow pastRow startsOf
   calls-are e f = rw (e, f)
 
   pub transfers-are : a ≡ firstRow transfers w s → b ≡ pastRow transfers w s

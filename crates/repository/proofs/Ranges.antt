@@ -11,12 +11,12 @@ use Rattle.base.specs.Choice.{split}
 use Rattle.shared.proofs.Span.{span-most}
 use Rattle.model.specs.Moments.{MAX}
 use Rattle.model.specs.Spans.{transferSpan, walkSpan}
-use Rattle.repository.specs.Sections.{sec, stops}
+use Rattle.repository.specs.Sections.{stops, callRoute, callFirst, transferStated}
 use Rattle.repository.specs.NetOf.{transferRow, walkRow, netOf}
 use Rattle.repository.specs.Laid.{Laid}
 use Rattle.repository.specs.Accepted.{Under, Accepted}
 use Rattle.repository.specs.Rows.{Listing, calls, transfers, walks, startsOf, wideOf, firstRow, pastRow, rowCount}
-use Rattle.repository.specs.Rows.{OfStop, callRoute, callFirst}
+use Rattle.repository.specs.Rows.{OfStop}
 use Rattle.repository.proofs.Rooms.{past-in}
 
 -- ---- the limits, as far as the network shows them
@@ -50,11 +50,11 @@ module _ {w : List ℕ} {s j : ℕ} (h : Accepted w) (o : OfStop calls w s j) wh
   stop-in = o .stop
 
   pub route-known : {r : ℕ} → r ≡ callRoute w j → r < netOf w .routes
-  unfolding netOf callRoute startsOf
+  unfolding netOf startsOf
   route-known e = rw e (h .listed .call-route s j stop-in (under calls o))
 
   pub position-known : {r p : ℕ} → r ≡ callRoute w j → p ≡ callFirst w j → p < netOf w .positions r
-  unfolding netOf callRoute callFirst startsOf
+  unfolding netOf startsOf
   position-known e f = rw (e, f) (h .listed .call-first-in s j stop-in (under calls o))
 
 -- ---- footpaths: where they lead, and how long they take
@@ -72,12 +72,12 @@ pub transfer-short : {w : List ℕ} {j x : ℕ} → Accepted w → j < rowCount 
     → x ≤ 86_400
 unfolding transferRow transferSpan rowCount startsOf wideOf
 transfer-short {w} {j} h i e =
-    split (eqb (sec w 8 (j * 4 + 2)) MAX)
+    split (eqb (transferStated w j) MAX)
     (λ t. rw (e, t) (omega (arith, span-most _ (h .measured .transfers j i))))
     (λ t. rw (e, t) (stated t (h .measured .spans j i)))
   where
-    stated : eqb (sec w 8 (j * 4 + 2)) MAX ≡ false → (sec w 8 (j * 4 + 2) ≡ MAX) ⊎ (sec w 8 (j * 4 + 2) ≤ 86_400)
-        → sec w 8 (j * 4 + 2) ≤ 86_400
+    stated : eqb (transferStated w j) MAX ≡ false → (transferStated w j ≡ MAX) ⊎ (transferStated w j ≤ 86_400)
+        → transferStated w j ≤ 86_400
     stated t (inl same) = absurd (eqb-false _ _ t same)
     stated t (inr l) = l
 

@@ -5,13 +5,16 @@ use mathlib.Core.List.{List, [], _∷_}
 use native.Mathlib.Omega.{arith}
 use native.Mathlib.Nat.{add-zero}
 use borrow.Author.Tests.{eq-eqb, ne-eqb}
+use lib.Dec.{eqb}
 use lib.ListN.{length}
 use lib.Ieee.{Float, ofBits, binary32}
 use Rattle.base.specs.Tab.{tab}
 use Rattle.shared.specs.Walk.{Stretch}
 use Rattle.model.specs.Moments.{MAX}
 use Rattle.repository.specs.declared.places.Station.the-variants.{At, Nothing}
-use Rattle.repository.specs.Sections.{start, size, sec, stops}
+use Rattle.repository.specs.Sections.{start, size, sec, stops, STOP-LIST, STATIONS, SERVED, ROUTE-STOP-STARTS}
+use Rattle.repository.specs.Sections.{ROUTE-STOPS, ROUTE-TRIP-STARTS, ROUTE-TRIPS, TIMES, SECTIONS, TIME-WORDS}
+use Rattle.repository.specs.Sections.{transferBits, transferMetres, walkBits, walkMetres}
 use Rattle.repository.specs.NetOf.{count, listOf, stationOf, netOf}
 use Rattle.repository.specs.Laid.{Laid}
 use Rattle.repository.specs.Accepted.{Accepted}
@@ -32,17 +35,44 @@ unfolding count
 list-room h k l m = room h (k + 1) (omega (arith, l .section)) (omega (arith, l .within))
 
 module _ {w : List ℕ} {r p a : ℕ} (h : Laid w) (i : r < netOf w .routes) where
-  pub stop-room : p < netOf w .positions r → a ≡ sec w 11 r → start w 12 + (a + p) < length w
+  pub stop-room : p < netOf w .positions r → a ≡ sec w ROUTE-STOP-STARTS r → start w ROUTE-STOPS + (a + p) < length w
   unfolding netOf
-  stop-room m e = rw e (list-room h 11 (stop-of-route h i) m)
+  stop-room m e = rw e (list-room h ROUTE-STOP-STARTS (stop-of-route h i) m)
 
-  pub trip-room : p < netOf w .trips r → a ≡ sec w 13 r → start w 14 + (a + p) < length w
+  pub trip-room : p < netOf w .trips r → a ≡ sec w ROUTE-TRIP-STARTS r → start w ROUTE-TRIPS + (a + p) < length w
   unfolding netOf
-  trip-room m e = rw e (list-room h 13 (trip-of-route h i) m)
+  trip-room m e = rw e (list-room h ROUTE-TRIP-STARTS (trip-of-route h i) m)
+
+-- what the words are
+module _ (w : List ℕ) (r p : ℕ) {a x : ℕ} where
+  pub stop-at-is : a ≡ sec w ROUTE-STOP-STARTS r → x ≡ sec w ROUTE-STOPS (a + p) → x ≡ netOf w .stopAt r p
+  unfolding netOf
+  stop-at-is e f = rw e at f
+
+  pub trip-at-is : a ≡ sec w ROUTE-TRIP-STARTS r → x ≡ sec w ROUTE-TRIPS (a + p) → x ≡ netOf w .tripAt r p
+  unfolding netOf
+  trip-at-is e f = rw e at f
+
+pub served-is : (w : List ℕ) (s : ℕ) {x : ℕ} → x ≡ sec w SERVED s → eqb x 1 ≡ netOf w .served s
+unfolding netOf
+served-is w s e = rw e
+
+module _ (w : List ℕ) (j : ℕ) {x : ℕ} {f : Float} where
+  pub transfer-metres-is : x ≡ transferBits w j → f ≡ ofBits binary32 x → f ≡ transferMetres w j
+  transfer-metres-is e g = rw e at g
+
+  pub walk-metres-is : x ≡ walkBits w j → f ≡ ofBits binary32 x → f ≡ walkMetres w j
+  walk-metres-is e g = rw e at g
+
+-- the words of an entry, from the first to the one before the next entry's
+pub listing-is : (w : List ℕ) (k i : ℕ) {q : List ℕ} {a b : ℕ} → a ≡ sec w k i → b ≡ sec w k (i + 1)
+    → q ≡ tab (sec w (k + 1)) (b - a) a → q ≡ listOf w k (sec w (k + 1)) i
+unfolding listOf count
+listing-is w k i ea eb f = rw (ea, eb) at f
 
 -- ---- rows of the three lists, and of the times
 
-section-in : (l : Listing) → startsOf l + 1 < 19
+section-in : (l : Listing) → startsOf l + 1 < SECTIONS
 unfolding startsOf
 section-in calls = omega arith
 section-in transfers = omega arith
@@ -68,36 +98,36 @@ pub past-known : (l : Listing) {w : List ℕ} {s b : ℕ} → Laid w → s < net
 past-known l h i e = omega (arith, past-in l h i)
 
 module _ {w : List ℕ} (row p : ℕ) (h : Laid w) (i : row + p < timeCount w) where
-  pub arrival-room : start w 16 + (row + p) * 2 < length w
+  pub arrival-room : start w TIMES + (row + p) * TIME-WORDS < length w
   unfolding timeCount
-  arrival-room = omega (arith, row-room h 16 2 (omega arith) {at = 0} i (omega arith))
+  arrival-room = omega (arith, row-room h TIMES TIME-WORDS (omega arith) {at = 0} i (omega arith))
 
-  pub departure-room : start w 16 + ((row + p) * 2 + 1) < length w
+  pub departure-room : start w TIMES + ((row + p) * TIME-WORDS + 1) < length w
   unfolding timeCount
-  departure-room = row-room h 16 2 (omega arith) i (omega arith)
+  departure-room = row-room h TIMES TIME-WORDS (omega arith) i (omega arith)
 
 -- the metres of accepted tables
 pub stretch-of : (bits : ℕ) (d : Float) → Stretch (ofBits binary32 bits) → d ≡ ofBits binary32 bits → Stretch d
 stretch-of bits d h e = rw e h
 
 module _ {w : List ℕ} (j : ℕ) {bits : ℕ} (h : Accepted w) where
-  pub transfer-stretch : j < rowCount transfers w → bits ≡ sec w 8 (j * 4 + 3) → Stretch (ofBits binary32 bits)
+  pub transfer-stretch : j < rowCount transfers w → bits ≡ transferBits w j → Stretch (ofBits binary32 bits)
   unfolding rowCount startsOf wideOf
   transfer-stretch i e = rw e (h .measured .transfers j i)
 
-  pub walk-stretch : j < rowCount walks w → bits ≡ sec w 10 (j * 2 + 1) → Stretch (ofBits binary32 bits)
+  pub walk-stretch : j < rowCount walks w → bits ≡ walkBits w j → Stretch (ofBits binary32 bits)
   unfolding rowCount startsOf wideOf
   walk-stretch i e = rw e (h .measured .walks j i)
 
 -- ---- stops
 
 -- the word of stop s in a section that has one for each stop
-pub stop-word : {w : List ℕ} (k : ℕ) {s : ℕ} → k < 19 → size w k ≡ stops w → Laid w → s < netOf w .stops
+pub stop-word : {w : List ℕ} (k : ℕ) {s : ℕ} → k < SECTIONS → size w k ≡ stops w → Laid w → s < netOf w .stops
     → start w k + s < length w
 unfolding netOf
 stop-word k g e h i = room h k g (omega arith)
 
-module _ (w : List ℕ) (s : ℕ) {p : ℕ} (e : p ≡ sec w 1 s) where
+module _ (w : List ℕ) (s : ℕ) {p : ℕ} (e : p ≡ sec w STATIONS s) where
   pub station-none : p ≡ MAX → Nothing ≡ stationIs (netOf w .station s)
   unfolding netOf stationOf stationIs
   station-none f = rw (← e, eq-eqb _ _ f)
@@ -107,7 +137,7 @@ module _ (w : List ℕ) (s : ℕ) {p : ℕ} (e : p ≡ sec w 1 s) where
   station-some f = rw (← e, ne-eqb _ _ f)
 
 module _ {w : List ℕ} {s : ℕ} (h : Accepted w) (i : s < netOf w .stops) where
-  pub entry-part : Part w 0 s (s + 1)
+  pub entry-part : Part w STOP-LIST s (s + 1)
   unfolding netOf
   entry-part = record { section = omega arith; rise = omega arith; within = omega arith }
 
@@ -115,16 +145,16 @@ module _ {w : List ℕ} {s : ℕ} (h : Accepted w) (i : s < netOf w .stops) wher
   unfolding netOf
   entry-small = omega (arith, h .laid .stops-limit)
 
-  pub entry-alone : {q : List ℕ} → q ≡ tab (sec w 0) (s + 1 - s) s → q ≡ s ∷ []
+  pub entry-alone : {q : List ℕ} → q ≡ tab (sec w STOP-LIST) (s + 1 - s) s → q ≡ s ∷ []
   unfolding netOf tab
   entry-alone e =
       let one : s + 1 - s ≡ 1 = omega arith in
-      e ∙ ap (λ (n : ℕ). tab (sec w 0) n s) one ∙ ap (λ (x : ℕ). x ∷ []) (h .listed .stop-list s i)
+      e ∙ ap (λ (n : ℕ). tab (sec w STOP-LIST) n s) one ∙ ap (λ (x : ℕ). x ∷ []) (h .listed .stop-list s i)
 
 -- ---- the stops of a route
 
-pub stops-are : (w : List ℕ) (r : ℕ) {q : List ℕ} → q ≡ listOf w 11 (sec w 12) r
+pub stops-are : (w : List ℕ) (r : ℕ) {q : List ℕ} → q ≡ listOf w ROUTE-STOP-STARTS (sec w ROUTE-STOPS) r
     → q ≡ tab (netOf w .stopAt r) (netOf w .positions r) 0
 unfolding netOf listOf
 stops-are w r e =
-    e ∙ (rw add-zero at (tab-shift (sec w 12) (λ p. sec w 12 (sec w 11 r + p)) (count w 11 r) 0 (sec w 11 r) (λ p. refl)))
+    e ∙ (rw add-zero at (tab-shift (sec w ROUTE-STOPS) (λ p. sec w ROUTE-STOPS (sec w ROUTE-STOP-STARTS r + p)) (count w ROUTE-STOP-STARTS r) 0 (sec w ROUTE-STOP-STARTS r) (λ p. refl)))

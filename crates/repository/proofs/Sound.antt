@@ -8,7 +8,7 @@ use Rattle.model.specs.declared.LegType.the-variants.{Transit, Transfer, Walk}
 use Rattle.model.specs.Tables.{Foot}
 use Rattle.model.specs.Journey.{listedUnder}
 use Rattle.model.specs.Sound.{Sound}
-use Rattle.repository.specs.Sections.{sec}
+use Rattle.repository.specs.Sections.{sec, CHILD-STARTS, CHILDREN, AREA-STARTS, AREA-STOPS}
 use Rattle.repository.specs.NetOf.{count, listOf, transferRow, walkRow, netOf}
 use Rattle.repository.specs.Accepted.{Accepted}
 use Rattle.repository.specs.Rows.{transfers, walks, rest}
@@ -38,13 +38,13 @@ module _ {w : List ℕ} (h : Accepted w) where
   pub children-in : (s c : ℕ) → s < netOf w .stops → List·Memᴰ c (netOf w .children s) → c < netOf w .stops
   unfolding netOf listOf count rest
   children-in s c i m =
-      let y = rest-said (sec w 3) (sec w 2 s) (sec w 2 (s + 1)) m in
+      let y = rest-said (sec w CHILDREN) (sec w CHILD-STARTS s) (sec w CHILD-STARTS (s + 1)) m in
       rw (y .says) (h .listed .child-in s (y .row) i (record { from = y .from; to = y .past }))
 
   pub areas-in : (a s : ℕ) → a < netOf w .areas → List·Memᴰ s (netOf w .areaStops a) → s < netOf w .stops
   unfolding netOf listOf count rest
   areas-in a s i m =
-      let y = rest-said (sec w 18) (sec w 17 a) (sec w 17 (a + 1)) m in
+      let y = rest-said (sec w AREA-STOPS) (sec w AREA-STARTS a) (sec w AREA-STARTS (a + 1)) m in
       rw (y .says) (h .listed .area-in (y .row) (omega (arith, y .past, (stop-of-area (h .laid) i) .within)))
 
   some-stop : (r : ℕ) → r < netOf w .routes → 0 < netOf w .positions r

@@ -4,14 +4,14 @@ use mathlib.Core.Path.{_≡_, refl, _∙_}
 use mathlib.Core.List.{List}
 use native.Mathlib.Omega.{arith}
 use Rattle.model.specs.Tables.{Net}
-use Rattle.repository.specs.Sections.{sec}
+use Rattle.repository.specs.Sections.{sec, ROUTE-TRIP-STARTS, TIME-STARTS, arrivalIn, departureIn}
 use Rattle.repository.specs.NetOf.{count, netOf}
 use Rattle.repository.specs.Accepted.{Under, Accepted}
-use Rattle.repository.specs.Rows.{TripOf, Stands, tripCount, timeCount, timeRow, arrivalIn, departureIn}
+use Rattle.repository.specs.Rows.{TripOf, Stands, tripCount, timeCount, timeRow}
 use Rattle.repository.proofs.Rooms.{starts-top, trip-of-route}
 
 module _ {w : List ℕ} {r v : ℕ} (h : Accepted w) (i : r < netOf w .routes) (t : TripOf (netOf w) r v) where
-  trip-under : Under w 13 r (sec w 13 r + t .place)
+  trip-under : Under w ROUTE-TRIP-STARTS r (sec w ROUTE-TRIP-STARTS r + t .place)
   unfolding netOf count
   trip-under = record { from = omega arith; to = omega (arith, t .within) }
 
@@ -20,11 +20,11 @@ module _ {w : List ℕ} {r v : ℕ} (h : Accepted w) (i : r < netOf w .routes) (
   trip-known =
       let u = trip-under in
       let words = trip-of-route (h .laid) i in
-      rw (t .trip) (h .listed .trip-in (sec w 13 r + t .place) (omega (arith, u .to, words .within)))
+      rw (t .trip) (h .listed .trip-in (sec w ROUTE-TRIP-STARTS r + t .place) (omega (arith, u .to, words .within)))
 
-  pub trip-long : count w 15 v ≡ netOf w .positions r
+  pub trip-long : count w TIME-STARTS v ≡ netOf w .positions r
   unfolding netOf
-  trip-long = rw (t .trip) (h .listed .trip-long r (sec w 13 r + t .place) i trip-under)
+  trip-long = rw (t .trip) (h .listed .trip-long r (sec w ROUTE-TRIP-STARTS r + t .place) i trip-under)
 
   pub time-known : {p row : ℕ} → p < netOf w .positions r → row ≡ timeRow w v → row + p < timeCount w
   unfolding timeRow timeCount count tripCount
@@ -47,9 +47,9 @@ stands h i t l = record { trip = trip-known h i t; row = time-known h i t l refl
 
 module _ (w : List ℕ) (v p : ℕ) {row t : ℕ} (e : row ≡ timeRow w v) where
   pub arrival-is : t ≡ arrivalIn w row p → t ≡ netOf w .arrival v p
-  unfolding netOf arrivalIn timeRow
+  unfolding netOf timeRow
   arrival-is f = f ∙ rw e
 
   pub departure-is : t ≡ departureIn w row p → t ≡ netOf w .departure v p
-  unfolding netOf departureIn timeRow
+  unfolding netOf timeRow
   departure-is f = f ∙ rw e

@@ -6,8 +6,14 @@ use mathlib.Core.List.{List}
 use Rattle.shared.specs.Walk.{Stretch}
 use Rattle.model.specs.Moments.{MAX}
 use Rattle.model.specs.Tables.{Net}
-use Rattle.repository.specs.Sections.{size, sec, stops, routes, trips, areas, rows}
-use Rattle.repository.specs.NetOf.{count, metres, netOf}
+use Rattle.repository.specs.Sections.{size, sec, stops, routes, trips, areas, rows, CHILD-STARTS, CHILDREN}
+use Rattle.repository.specs.Sections.{CALL-STARTS, TRANSFER-STARTS, TRANSFERS, WALKS, ROUTE-STOP-STARTS, ROUTE-STOPS}
+use Rattle.repository.specs.Sections.{ROUTE-TRIP-STARTS, ROUTE-TRIPS, TIME-STARTS, AREA-STARTS, AREA-STOPS}
+use Rattle.repository.specs.Sections.{TRANSFER-WORDS, WALK-WORDS, stopListAt, stationAt, servedAt, childAt}
+use Rattle.repository.specs.Sections.{routeStopAt, routeTripAt, areaStopAt, callRoute, callFirst, callLast}
+use Rattle.repository.specs.Sections.{transferFrom, transferTo, transferStated, transferMetres, walkTo, walkMetres}
+use Rattle.repository.specs.Sections.{stopOn}
+use Rattle.repository.specs.NetOf.{count, netOf}
 use Rattle.repository.specs.Laid.{Laid}
 
 -- row j stands under entry i of the starts section k
@@ -18,43 +24,43 @@ pub record Under (w : List ℕ) (k i j : ℕ) : Type 0 where
 -- row j of the calls names route r for its stop, which stands at p neither before the first nor after the last position that it names
 pub record Called (w : List ℕ) (r p s : ℕ) : Type 0 where
   pub row : ℕ
-  pub under : Under w 4 s row
-  pub route : sec w 5 (row * 3) ≡ r
-  pub first : sec w 5 (row * 3 + 1) ≤ p
-  pub last : p ≤ sec w 5 (row * 3 + 2)
+  pub under : Under w CALL-STARTS s row
+  pub route : callRoute w row ≡ r
+  pub first : callFirst w row ≤ p
+  pub last : p ≤ callLast w row
 
 -- a trip passes the stop
 pub record Passed (w : List ℕ) (s : ℕ) : Type 0 where
   pub row : ℕ
-  pub under : Under w 4 s row
-  pub trip : 0 < count w 13 (sec w 5 (row * 3))
+  pub under : Under w CALL-STARTS s row
+  pub trip : 0 < count w ROUTE-TRIP-STARTS (callRoute w row)
 
 -- no number 2
 pub record Listed (w : List ℕ) : Type 0 where
-  pub stop-list : (s : ℕ) → s < stops w → sec w 0 s ≡ s
-  pub station-in : (s : ℕ) → s < stops w → (sec w 1 s ≡ MAX) ⊎ (sec w 1 s < stops w)
-  pub child-in : (p j : ℕ) → p < stops w → Under w 2 p j → sec w 3 j < stops w
-  pub child-of : (p j : ℕ) → p < stops w → Under w 2 p j → sec w 1 (sec w 3 j) ≡ p
-  pub child-once : (i j : ℕ) → i < j → j < size w 3 → sec w 3 i ≢ sec w 3 j
-  pub child-all : (s : ℕ) → s < stops w → sec w 1 s ≢ MAX → (j : ℕ) × (j < size w 3) × (sec w 3 j ≡ s)
-  pub stop-in : (i : ℕ) → i < size w 12 → sec w 12 i < stops w
-  pub trip-in : (i : ℕ) → i < size w 14 → sec w 14 i < trips w
-  pub trip-once : (i j : ℕ) → i < j → j < size w 14 → sec w 14 i ≢ sec w 14 j
-  pub trip-long : (r i : ℕ) → r < routes w → Under w 13 r i → count w 15 (sec w 14 i) ≡ count w 11 r
-  pub call-route : (s j : ℕ) → s < stops w → Under w 4 s j → sec w 5 (j * 3) < routes w
-  pub call-first-in : (s j : ℕ) → s < stops w → Under w 4 s j → sec w 5 (j * 3 + 1) < count w 11 (sec w 5 (j * 3))
-  pub call-last-in : (s j : ℕ) → s < stops w → Under w 4 s j → sec w 5 (j * 3 + 2) < count w 11 (sec w 5 (j * 3))
-  pub call-first : (s j : ℕ) → s < stops w → Under w 4 s j → sec w 12 (sec w 11 (sec w 5 (j * 3)) + sec w 5 (j * 3 + 1)) ≡ s
-  pub call-last : (s j : ℕ) → s < stops w → Under w 4 s j → sec w 12 (sec w 11 (sec w 5 (j * 3)) + sec w 5 (j * 3 + 2)) ≡ s
-  pub call-rise : (s j : ℕ) → s < stops w → sec w 4 s < j → j < sec w 4 (s + 1) → sec w 5 ((j - 1) * 3) < sec w 5 (j * 3)
-  pub call-all : (r p : ℕ) → r < routes w → p < count w 11 r → Called w r p (sec w 12 (sec w 11 r + p))
-  pub served-one : (s : ℕ) → s < stops w → Passed w s → sec w 6 s ≡ 1
-  pub served-none : (s : ℕ) → s < stops w → (Passed w s → ⊥) → sec w 6 s ≡ 0
-  pub transfer-from : (s j : ℕ) → s < stops w → Under w 7 s j → sec w 8 (j * 4) ≡ s
-  pub transfer-to : (s j : ℕ) → s < stops w → Under w 7 s j → sec w 8 (j * 4 + 1) < stops w
-  pub walk-to : (j : ℕ) → j < rows w 10 2 → sec w 10 (j * 2) < stops w
-  pub area-in : (i : ℕ) → i < size w 18 → sec w 18 i < stops w
-  pub area-once : (a i j : ℕ) → a < areas w → Under w 17 a i → i < j → j < sec w 17 (a + 1) → sec w 18 i ≢ sec w 18 j
+  pub stop-list : (s : ℕ) → s < stops w → stopListAt w s ≡ s
+  pub station-in : (s : ℕ) → s < stops w → (stationAt w s ≡ MAX) ⊎ (stationAt w s < stops w)
+  pub child-in : (p j : ℕ) → p < stops w → Under w CHILD-STARTS p j → childAt w j < stops w
+  pub child-of : (p j : ℕ) → p < stops w → Under w CHILD-STARTS p j → stationAt w (childAt w j) ≡ p
+  pub child-once : (i j : ℕ) → i < j → j < size w CHILDREN → childAt w i ≢ childAt w j
+  pub child-all : (s : ℕ) → s < stops w → stationAt w s ≢ MAX → (j : ℕ) × (j < size w CHILDREN) × (childAt w j ≡ s)
+  pub stop-in : (i : ℕ) → i < size w ROUTE-STOPS → routeStopAt w i < stops w
+  pub trip-in : (i : ℕ) → i < size w ROUTE-TRIPS → routeTripAt w i < trips w
+  pub trip-once : (i j : ℕ) → i < j → j < size w ROUTE-TRIPS → routeTripAt w i ≢ routeTripAt w j
+  pub trip-long : (r i : ℕ) → r < routes w → Under w ROUTE-TRIP-STARTS r i → count w TIME-STARTS (routeTripAt w i) ≡ count w ROUTE-STOP-STARTS r
+  pub call-route : (s j : ℕ) → s < stops w → Under w CALL-STARTS s j → callRoute w j < routes w
+  pub call-first-in : (s j : ℕ) → s < stops w → Under w CALL-STARTS s j → callFirst w j < count w ROUTE-STOP-STARTS (callRoute w j)
+  pub call-last-in : (s j : ℕ) → s < stops w → Under w CALL-STARTS s j → callLast w j < count w ROUTE-STOP-STARTS (callRoute w j)
+  pub call-first : (s j : ℕ) → s < stops w → Under w CALL-STARTS s j → stopOn w (callRoute w j) (callFirst w j) ≡ s
+  pub call-last : (s j : ℕ) → s < stops w → Under w CALL-STARTS s j → stopOn w (callRoute w j) (callLast w j) ≡ s
+  pub call-rise : (s j : ℕ) → s < stops w → sec w CALL-STARTS s < j → j < sec w CALL-STARTS (s + 1) → callRoute w (j - 1) < callRoute w j
+  pub call-all : (r p : ℕ) → r < routes w → p < count w ROUTE-STOP-STARTS r → Called w r p (stopOn w r p)
+  pub served-one : (s : ℕ) → s < stops w → Passed w s → servedAt w s ≡ 1
+  pub served-none : (s : ℕ) → s < stops w → (Passed w s → ⊥) → servedAt w s ≡ 0
+  pub transfer-from : (s j : ℕ) → s < stops w → Under w TRANSFER-STARTS s j → transferFrom w j ≡ s
+  pub transfer-to : (s j : ℕ) → s < stops w → Under w TRANSFER-STARTS s j → transferTo w j < stops w
+  pub walk-to : (j : ℕ) → j < rows w WALKS WALK-WORDS → walkTo w j < stops w
+  pub area-in : (i : ℕ) → i < size w AREA-STOPS → areaStopAt w i < stops w
+  pub area-once : (a i j : ℕ) → a < areas w → Under w AREA-STARTS a i → i < j → j < sec w AREA-STARTS (a + 1) → areaStopAt w i ≢ areaStopAt w j
 
 -- no number 3
 pub record Timed (n : Net) : Type 0 where
@@ -74,9 +80,9 @@ pub record Ordered (n : Net) : Type 0 where
 
 -- no number 5
 pub record Measured (w : List ℕ) : Type 0 where
-  pub spans : (j : ℕ) → j < rows w 8 4 → (sec w 8 (j * 4 + 2) ≡ MAX) ⊎ (sec w 8 (j * 4 + 2) ≤ 86_400)
-  pub transfers : (j : ℕ) → j < rows w 8 4 → Stretch (metres (sec w 8 (j * 4 + 3)))
-  pub walks : (j : ℕ) → j < rows w 10 2 → Stretch (metres (sec w 10 (j * 2 + 1)))
+  pub spans : (j : ℕ) → j < rows w TRANSFERS TRANSFER-WORDS → (transferStated w j ≡ MAX) ⊎ (transferStated w j ≤ 86_400)
+  pub transfers : (j : ℕ) → j < rows w TRANSFERS TRANSFER-WORDS → Stretch (transferMetres w j)
+  pub walks : (j : ℕ) → j < rows w WALKS WALK-WORDS → Stretch (walkMetres w j)
 
 -- numbers 1 to 5 all passed
 pub record Accepted (w : List ℕ) : Type 0 where

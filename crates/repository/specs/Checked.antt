@@ -7,8 +7,9 @@ use Rattle.shared.specs.Walk.{stretch}
 use Rattle.base.specs.All.{all}
 use Rattle.model.specs.Moments.{MAX}
 use Rattle.model.specs.Tables.{Net}
-use Rattle.repository.specs.Sections.{sec, rows}
-use Rattle.repository.specs.NetOf.{metres, netOf}
+use Rattle.repository.specs.Sections.{rows, TRANSFERS, WALKS, TRANSFER-WORDS, WALK-WORDS, transferStated}
+use Rattle.repository.specs.Sections.{transferMetres, walkMetres}
+use Rattle.repository.specs.NetOf.{netOf}
 use Rattle.repository.specs.Laid.{laid}
 use Rattle.repository.specs.Listed.{listed}
 
@@ -39,8 +40,8 @@ ordered n = walk n 1 (behind n)
 -- 5: "a distance that is NaN, below 0 or above 100,000; a stated transfer span above 86,400"
 unfoldable pub measured : List ℕ → Bool
 measured w =
-    all (λ j. (eqb (sec w 8 (j * 4 + 2)) MAX || leb (sec w 8 (j * 4 + 2)) 86_400) && stretch (metres (sec w 8 (j * 4 + 3)))) 0 (rows w 8 4)
-    && all (λ j. stretch (metres (sec w 10 (j * 2 + 1)))) 0 (rows w 10 2)
+    all (λ j. (eqb (transferStated w j) MAX || leb (transferStated w j) 86_400) && stretch (transferMetres w j)) 0 (rows w TRANSFERS TRANSFER-WORDS)
+    && all (λ j. stretch (walkMetres w j)) 0 (rows w WALKS WALK-WORDS)
 
 unfoldable pub checkOf : List ℕ → ℕ
 checkOf w = cond (laid w) (cond (listed w) (cond (timed (netOf w)) (cond (ordered (netOf w)) (cond (measured w) 0 5) 4) 3) 2) 1

@@ -4,12 +4,14 @@ use mathlib.Core.Bool.{Bool, cond}
 use mathlib.Core.Option.{Option, none, some}
 use mathlib.Core.List.{List}
 use lib.Dec.{eqb}
-use lib.Ieee.{Float, ofBits, binary32}
 use Rattle.base.specs.Tab.{tab}
 use Rattle.model.specs.Moments.{MAX}
 use Rattle.model.specs.Spans.{transferSpan, walkSpan}
 use Rattle.model.specs.Tables.{Foot, Net}
-use Rattle.repository.specs.Sections.{start, size, sec, stops, routes, areas}
+use Rattle.repository.specs.Sections.{sec, stops, routes, trips, areas, CHILD-STARTS, CALL-STARTS, TRANSFER-STARTS}
+use Rattle.repository.specs.Sections.{WALK-STARTS, ROUTE-STOP-STARTS, ROUTE-TRIP-STARTS, TIME-STARTS, AREA-STARTS}
+use Rattle.repository.specs.Sections.{stationAt, servedAt, childAt, areaStopAt, callRoute, transferTo, transferStated}
+use Rattle.repository.specs.Sections.{transferMetres, walkTo, walkMetres, stopOn, tripOn, arrivalIn, departureIn}
 
 -- how many rows entry i of the starts section k has
 unfoldable pub count : List ℕ → ℕ → ℕ → ℕ
@@ -19,16 +21,12 @@ count w k i = sec w k (i + 1) - sec w k i
 unfoldable pub listOf : {A : Type 0} → List ℕ → ℕ → (ℕ → A) → ℕ → List A
 listOf w k f i = tab f (count w k i) (sec w k i)
 
--- the metres of an f32's bits
-abbrev pub metres : ℕ → Float
-metres bits = ofBits binary32 bits
-
 -- row j of the transfers, and of the walks
 unfoldable pub transferRow : List ℕ → ℕ → Foot
-transferRow w j = record { to = sec w 8 (j * 4 + 1); span = transferSpan (sec w 8 (j * 4 + 2)) (metres (sec w 8 (j * 4 + 3))) }
+transferRow w j = record { to = transferTo w j; span = transferSpan (transferStated w j) (transferMetres w j) }
 
 unfoldable pub walkRow : List ℕ → ℕ → Foot
-walkRow w j = record { to = sec w 10 (j * 2); span = walkSpan (metres (sec w 10 (j * 2 + 1))) }
+walkRow w j = record { to = walkTo w j; span = walkSpan (walkMetres w j) }
 
 -- "absent parent is MAX"
 unfoldable pub stationOf : ℕ → Option ℕ
@@ -38,18 +36,18 @@ unfoldable pub netOf : List ℕ → Net
 netOf w = record {
   stops = stops w;
   routes = routes w;
-  positions = count w 11;
-  stopAt = λ r p. sec w 12 (sec w 11 r + p);
-  trips = count w 13;
-  tripAt = λ r i. sec w 14 (sec w 13 r + i);
-  arrival = λ v p. sec w 16 ((sec w 15 v + p) * 2);
-  departure = λ v p. sec w 16 ((sec w 15 v + p) * 2 + 1);
-  routesOf = listOf w 4 (λ j. sec w 5 (j * 3));
-  transfers = listOf w 7 (transferRow w);
-  walks = listOf w 9 (walkRow w);
-  station = λ s. stationOf (sec w 1 s);
-  children = listOf w 2 (sec w 3);
-  served = λ s. eqb (sec w 6 s) 1;
+  positions = count w ROUTE-STOP-STARTS;
+  stopAt = λ r p. stopOn w r p;
+  trips = count w ROUTE-TRIP-STARTS;
+  tripAt = λ r i. tripOn w r i;
+  arrival = λ v p. arrivalIn w (sec w TIME-STARTS v) p;
+  departure = λ v p. departureIn w (sec w TIME-STARTS v) p;
+  routesOf = listOf w CALL-STARTS (callRoute w);
+  transfers = listOf w TRANSFER-STARTS (transferRow w);
+  walks = listOf w WALK-STARTS (walkRow w);
+  station = λ s. stationOf (stationAt w s);
+  children = listOf w CHILD-STARTS (childAt w);
+  served = λ s. eqb (servedAt w s) 1;
   areas = areas w;
-  areaStops = listOf w 17 (sec w 18);
+  areaStops = listOf w AREA-STARTS (areaStopAt w);
 }

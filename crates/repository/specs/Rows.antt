@@ -2,11 +2,11 @@
 use Prim.Native.Nat.{ℕ, _+_, _-_, _*_, _≤_, _<_}
 use mathlib.Core.Path.{_≡_}
 use mathlib.Core.List.{List}
-use lib.Ieee.{Float}
 use Rattle.base.specs.Tab.{tab}
 use Rattle.model.specs.Tables.{Net}
-use Rattle.repository.specs.Sections.{sec, trips, rows}
-use Rattle.repository.specs.NetOf.{metres, netOf}
+use Rattle.repository.specs.Sections.{sec, trips, rows, CALL-STARTS, TRANSFER-STARTS, WALK-STARTS, TIME-STARTS, TIMES}
+use Rattle.repository.specs.Sections.{CALL-WORDS, TRANSFER-WORDS, WALK-WORDS, TIME-WORDS}
+use Rattle.repository.specs.NetOf.{netOf}
 
 -- the three lists of rows that stand under a stop
 pub data Listing : Type 0 where
@@ -14,14 +14,14 @@ pub data Listing : Type 0 where
 
 -- the starts section of a list, and how wide a row of the section behind it is
 unfoldable pub startsOf : Listing → ℕ
-startsOf calls = 4
-startsOf transfers = 7
-startsOf walks = 9
+startsOf calls = CALL-STARTS
+startsOf transfers = TRANSFER-STARTS
+startsOf walks = WALK-STARTS
 
 unfoldable pub wideOf : Listing → ℕ
-wideOf calls = 3
-wideOf transfers = 4
-wideOf walks = 2
+wideOf calls = CALL-WORDS
+wideOf transfers = TRANSFER-WORDS
+wideOf walks = WALK-WORDS
 
 -- how many rows a list has
 unfoldable pub rowCount : Listing → List ℕ → ℕ
@@ -44,23 +44,6 @@ pub record OfStop (l : Listing) (w : List ℕ) (s j : ℕ) : Type 0 where
 unfoldable pub rest : {A : Type 0} → (ℕ → A) → ℕ → ℕ → List A
 rest f j b = tab f (b - j) j
 
--- what row j of the calls says: the route, and the first position of the stop in it
-unfoldable pub callRoute : List ℕ → ℕ → ℕ
-callRoute w j = sec w 5 (j * 3)
-
-unfoldable pub callFirst : List ℕ → ℕ → ℕ
-callFirst w j = sec w 5 (j * 3 + 1)
-
--- the stated span of row j of the transfers, and its metres; the metres of row j of the walks
-unfoldable pub transferStated : List ℕ → ℕ → ℕ
-transferStated w j = sec w 8 (j * 4 + 2)
-
-unfoldable pub transferMetres : List ℕ → ℕ → Float
-transferMetres w j = metres (sec w 8 (j * 4 + 3))
-
-unfoldable pub walkMetres : List ℕ → ℕ → Float
-walkMetres w j = metres (sec w 10 (j * 2 + 1))
-
 -- trip v is one of route r
 pub record TripOf (n : Net) (r v : ℕ) : Type 0 where
   pub place : ℕ
@@ -72,17 +55,10 @@ unfoldable pub tripCount : List ℕ → ℕ
 tripCount w = trips w
 
 unfoldable pub timeCount : List ℕ → ℕ
-timeCount w = rows w 16 2
+timeCount w = rows w TIMES TIME-WORDS
 
 unfoldable pub timeRow : List ℕ → ℕ → ℕ
-timeRow w v = sec w 15 v
-
--- the moments at position p of the trip whose first row is `row`
-unfoldable pub arrivalIn : List ℕ → ℕ → ℕ → ℕ
-arrivalIn w row p = sec w 16 ((row + p) * 2)
-
-unfoldable pub departureIn : List ℕ → ℕ → ℕ → ℕ
-departureIn w row p = sec w 16 ((row + p) * 2 + 1)
+timeRow w v = sec w TIME-STARTS v
 
 -- trip v has a position p
 pub record Stands (w : List ℕ) (v p : ℕ) : Type 0 where

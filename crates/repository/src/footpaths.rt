@@ -2,11 +2,12 @@
 ghost use mathlib.Core.Path.{_≡_};
 ghost use Prim.Native.Nat.{_<_, _≤_};
 ghost use Rattle.shared.specs.Walk.{Stretch};
+ghost use Rattle.repository.specs.Sections.{transferStated, transferMetres, walkMetres};
 ghost use Rattle.repository.specs.Laid.{Laid};
 ghost use Rattle.repository.specs.Accepted.{Accepted};
 ghost use Rattle.repository.specs.NetOf.{netOf, transferRow, walkRow};
 ghost use Rattle.repository.specs.Rows.{transfers, walks, firstRow, pastRow, rowCount};
-ghost use Rattle.repository.specs.Rows.{transferStated, transferMetres, walkMetres};
+use crate::sections;
 use shared::Distance;
 use shared::Duration;
 
@@ -16,7 +17,7 @@ pub fn transfers_from(tables: &[u32], s: u32) -> u32
     requires { ⌜ s < netOf (now tables) .stops ⌝ }
     ensures { λ a. ⌜ a ≡ firstRow transfers (now (tables .entry)) s ⌝ }
 {
-    super::row_from(tables, 7, s)
+    super::row_from(tables, sections::TRANSFER_STARTS, s)
 }
 
 // The row past its last.
@@ -26,7 +27,7 @@ pub fn transfers_to(tables: &[u32], s: u32) -> u32
     ensures { λ b. ⌜ b ≡ pastRow transfers (now (tables .entry)) s ⌝ }
     ensures { λ b. ⌜ b ≤ rowCount transfers (now (tables .entry)) ⌝ }
 {
-    super::row_to(tables, 7, s)
+    super::row_to(tables, sections::TRANSFER_STARTS, s)
 }
 
 // The stop that transfer j leads to.
@@ -35,8 +36,8 @@ pub fn transfer_to(tables: &[u32], j: u32) -> u32
     requires { ⌜ j < rowCount transfers (now tables) ⌝ }
     ensures { λ s. ⌜ s ≡ (transferRow (now (tables .entry)) j) .to ⌝ }
 {
-    let at = j as usize * 4 + 1;
-    super::word(tables, 8, at)
+    let at = j as usize * sections::TRANSFER_WORDS + sections::TRANSFER_TO;
+    super::word(tables, sections::TRANSFERS, at)
 }
 
 // Its stated span; MAX is an unstated one.
@@ -45,8 +46,8 @@ pub fn transfer_stated(tables: &[u32], j: u32) -> Duration
     requires { ⌜ j < rowCount transfers (now tables) ⌝ }
     ensures { λ d. ⌜ d .0 ≡ transferStated (now (tables .entry)) j ⌝ }
 {
-    let at = j as usize * 4 + 2;
-    Duration(super::word(tables, 8, at))
+    let at = j as usize * sections::TRANSFER_WORDS + sections::TRANSFER_STATED;
+    Duration(super::word(tables, sections::TRANSFERS, at))
 }
 
 // Its metres.
@@ -56,8 +57,8 @@ pub fn transfer_metres(tables: &[u32], j: u32) -> Distance
     ensures { λ d. ⌜ d .0 ≡ transferMetres (now (tables .entry)) j ⌝ }
     ensures { λ d. ⌜ Stretch (d .0) ⌝ }
 {
-    let at = j as usize * 4 + 3;
-    let bits = super::word(tables, 8, at);
+    let at = j as usize * sections::TRANSFER_WORDS + sections::TRANSFER_METRES;
+    let bits = super::word(tables, sections::TRANSFERS, at);
     shared::distance_of(bits)
 }
 
@@ -67,7 +68,7 @@ pub fn walks_from(tables: &[u32], s: u32) -> u32
     requires { ⌜ s < netOf (now tables) .stops ⌝ }
     ensures { λ a. ⌜ a ≡ firstRow walks (now (tables .entry)) s ⌝ }
 {
-    super::row_from(tables, 9, s)
+    super::row_from(tables, sections::WALK_STARTS, s)
 }
 
 // The row past its last.
@@ -77,7 +78,7 @@ pub fn walks_to(tables: &[u32], s: u32) -> u32
     ensures { λ b. ⌜ b ≡ pastRow walks (now (tables .entry)) s ⌝ }
     ensures { λ b. ⌜ b ≤ rowCount walks (now (tables .entry)) ⌝ }
 {
-    super::row_to(tables, 9, s)
+    super::row_to(tables, sections::WALK_STARTS, s)
 }
 
 // The stop that walk j leads to.
@@ -86,8 +87,8 @@ pub fn walk_to(tables: &[u32], j: u32) -> u32
     requires { ⌜ j < rowCount walks (now tables) ⌝ }
     ensures { λ s. ⌜ s ≡ (walkRow (now (tables .entry)) j) .to ⌝ }
 {
-    let at = j as usize * 2;
-    super::word(tables, 10, at)
+    let at = j as usize * sections::WALK_WORDS;
+    super::word(tables, sections::WALKS, at)
 }
 
 // Its metres.
@@ -97,7 +98,7 @@ pub fn walk_metres(tables: &[u32], j: u32) -> Distance
     ensures { λ d. ⌜ d .0 ≡ walkMetres (now (tables .entry)) j ⌝ }
     ensures { λ d. ⌜ Stretch (d .0) ⌝ }
 {
-    let at = j as usize * 2 + 1;
-    let bits = super::word(tables, 10, at);
+    let at = j as usize * sections::WALK_WORDS + sections::WALK_METRES;
+    let bits = super::word(tables, sections::WALKS, at);
     shared::distance_of(bits)
 }

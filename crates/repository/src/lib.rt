@@ -1,5 +1,6 @@
 // Readers of the flat tables. Only this crate knows where a word stands; the readers say what it is in the network
 // that the words hold.
+pub mod sections; // sections.rt: the layout in numbers
 pub mod routes; // routes.rt: the stops and the trips of a route
 pub mod times; // times.rt: the moments of a trip
 pub mod calls; // calls.rt: the routes that contain a stop
@@ -10,7 +11,7 @@ ghost use mathlib.Core.Path.{_≡_};
 ghost use Prim.Native.Nat.{_+_, _-_, _<_};
 ghost use lib.ListN.{length};
 ghost use Rattle.base.specs.Tab.{tab};
-ghost use Rattle.repository.specs.Sections.{start, size as sizeOf, sec};
+ghost use Rattle.repository.specs.Sections.{start, size as sizeOf, sec, SECTIONS};
 ghost use Rattle.repository.specs.NetOf.{count, listOf};
 ghost use Rattle.repository.specs.Laid.{Laid};
 ghost use Rattle.repository.specs.Entries.{Entry, Part, Words};
@@ -39,7 +40,7 @@ pub fn word(tables: &[u32], k: usize, i: usize) -> u32
 // How many words section k has.
 fn size(tables: &[u32], k: usize) -> u32
     requires { ⌜ Laid (now tables) ⌝ }
-    requires { ⌜ k < 19 ⌝ }
+    requires { ⌜ k < SECTIONS ⌝ }
     ensures { λ n. ⌜ n ≡ sizeOf (now (tables .entry)) k ⌝ }
 {
     let b = head(tables, k + 1);

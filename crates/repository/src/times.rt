@@ -2,8 +2,10 @@
 // then read by that row.
 ghost use mathlib.Core.Path.{_≡_};
 ghost use Prim.Native.Nat.{_+_, _<_};
+ghost use Rattle.repository.specs.Sections.{arrivalIn, departureIn};
 ghost use Rattle.repository.specs.Laid.{Laid};
-ghost use Rattle.repository.specs.Rows.{tripCount, timeCount, timeRow, arrivalIn, departureIn};
+ghost use Rattle.repository.specs.Rows.{tripCount, timeCount, timeRow};
+use crate::sections;
 use shared::Time;
 
 // The first row of a trip's times.
@@ -12,7 +14,7 @@ pub fn time_row(tables: &[u32], v: u32) -> u32
     requires { ⌜ v < tripCount (now tables) ⌝ }
     ensures { λ a. ⌜ a ≡ timeRow (now (tables .entry)) v ⌝ }
 {
-    super::row_from(tables, 15, v)
+    super::row_from(tables, sections::TIME_STARTS, v)
 }
 
 // When the trip whose times begin at a row arrives at position p.
@@ -21,8 +23,8 @@ pub fn arrival_in(tables: &[u32], row: u32, p: u32) -> Time
     requires { ⌜ row + p < timeCount (now tables) ⌝ }
     ensures { λ t. ⌜ t .0 ≡ arrivalIn (now (tables .entry)) row p ⌝ }
 {
-    let at = (row as usize + p as usize) * 2;
-    Time(super::word(tables, 16, at))
+    let at = (row as usize + p as usize) * sections::TIME_WORDS;
+    Time(super::word(tables, sections::TIMES, at))
 }
 
 // When it departs from there.
@@ -31,6 +33,6 @@ pub fn departure_in(tables: &[u32], row: u32, p: u32) -> Time
     requires { ⌜ row + p < timeCount (now tables) ⌝ }
     ensures { λ t. ⌜ t .0 ≡ departureIn (now (tables .entry)) row p ⌝ }
 {
-    let at = (row as usize + p as usize) * 2 + 1;
-    Time(super::word(tables, 16, at))
+    let at = (row as usize + p as usize) * sections::TIME_WORDS + sections::DEPARTURE;
+    Time(super::word(tables, sections::TIMES, at))
 }

@@ -6,7 +6,8 @@ use mathlib.Core.List.{List}
 use lib.Dec.{ltb, leb, eqb}
 use borrow.Author.Tests.{lt-ltb, ltb-true, le-leb, leb-true, eqb-true, eq-eqb}
 use Rattle.base.specs.Choice.{split, and-left, and-right}
-use Rattle.repository.specs.Sections.{sec, routes}
+use Rattle.repository.specs.Sections.{sec, routes, CALL-STARTS, SERVED, ROUTE-STOP-STARTS, ROUTE-STOPS, callRoute}
+use Rattle.repository.specs.Sections.{callFirst, callLast}
 use Rattle.repository.specs.NetOf.{count}
 use Rattle.repository.specs.Listed.{call, calls, called, running, passes, servedMark}
 use Rattle.repository.specs.Accepted.{Called, Passed}
@@ -14,11 +15,11 @@ use Rattle.repository_calls.proofs.Ranges.{some-shown, some-so}
 
 -- ---- a call
 pub record Call (w : List ℕ) (s j : ℕ) : Type 0 where
-  pub route : sec w 5 (j * 3) < routes w
-  pub first-in : sec w 5 (j * 3 + 1) < count w 11 (sec w 5 (j * 3))
-  pub last-in : sec w 5 (j * 3 + 2) < count w 11 (sec w 5 (j * 3))
-  pub first : sec w 12 (sec w 11 (sec w 5 (j * 3)) + sec w 5 (j * 3 + 1)) ≡ s
-  pub last : sec w 12 (sec w 11 (sec w 5 (j * 3)) + sec w 5 (j * 3 + 2)) ≡ s
+  pub route : callRoute w j < routes w
+  pub first-in : callFirst w j < count w ROUTE-STOP-STARTS (callRoute w j)
+  pub last-in : callLast w j < count w ROUTE-STOP-STARTS (callRoute w j)
+  pub first : sec w ROUTE-STOPS (sec w ROUTE-STOP-STARTS (callRoute w j) + callFirst w j) ≡ s
+  pub last : sec w ROUTE-STOPS (sec w ROUTE-STOP-STARTS (callRoute w j) + callLast w j) ≡ s
 
 -- five tests of numbers: the first three are of order, the others of equality
 five-shown : (a b c d e f x y s : ℕ) → ltb a b && ltb c d && ltb e f && eqb x s && eqb y s ≡ true
@@ -49,14 +50,14 @@ module _ (w : List ℕ) (s j : ℕ) where
 
 -- ---- a position
 module _ (w : List ℕ) (r p : ℕ) where
-  pub called-shown : called w r p ≡ true → Called w r p (sec w 12 (sec w 11 r + p))
+  pub called-shown : called w r p ≡ true → Called w r p (sec w ROUTE-STOPS (sec w ROUTE-STOP-STARTS r + p))
   unfolding called calls
   called-shown e =
       let x = some-shown (calls w r p) _ _ e in
       let j = x .at in
-      let a = eqb (sec w 5 (j * 3)) r in
-      let b = leb (sec w 5 (j * 3 + 1)) p in
-      let c = leb p (sec w 5 (j * 3 + 2)) in
+      let a = eqb (callRoute w j) r in
+      let b = leb (callFirst w j) p in
+      let c = leb p (callLast w j) in
       let h₂ = and-left (a && b) c (x .passes) in
       record {
         row = j;
@@ -66,7 +67,7 @@ module _ (w : List ℕ) (r p : ℕ) where
         last = leb-true _ _ (and-right (a && b) c (x .passes));
       }
 
-  pub called-so : Called w r p (sec w 12 (sec w 11 r + p)) → called w r p ≡ true
+  pub called-so : Called w r p (sec w ROUTE-STOPS (sec w ROUTE-STOP-STARTS r + p)) → called w r p ≡ true
   unfolding called calls
   called-so h =
       some-so (calls w r p) _ _
@@ -82,27 +83,27 @@ module _ (w : List ℕ) (s : ℕ) where
   passes-shown : passes w s ≡ true → Passed w s
   unfolding passes running
   passes-shown e =
-      let x = some-shown (running w) (sec w 4 s) (sec w 4 (s + 1)) e in
+      let x = some-shown (running w) (sec w CALL-STARTS s) (sec w CALL-STARTS (s + 1)) e in
       record { row = x .at; under = record { from = x .from; to = x .to }; trip = ltb-true 0 _ (x .passes) }
 
   passes-so : Passed w s → passes w s ≡ true
   unfolding passes running
   passes-so h =
-      some-so (running w) (sec w 4 s) (sec w 4 (s + 1))
+      some-so (running w) (sec w CALL-STARTS s) (sec w CALL-STARTS (s + 1))
       (record { at = h .row; from = h .under .from; to = h .under .to; passes = lt-ltb 0 _ (h .trip) })
 
-  pub mark-set : servedMark w s ≡ true → Passed w s → sec w 6 s ≡ 1
+  pub mark-set : servedMark w s ≡ true → Passed w s → sec w SERVED s ≡ 1
   unfolding servedMark
-  mark-set e h = eqb-true (sec w 6 s) 1 (rw (passes-so h) at e)
+  mark-set e h = eqb-true (sec w SERVED s) 1 (rw (passes-so h) at e)
 
-  pub mark-unset : servedMark w s ≡ true → (Passed w s → ⊥) → sec w 6 s ≡ 0
+  pub mark-unset : servedMark w s ≡ true → (Passed w s → ⊥) → sec w SERVED s ≡ 0
   unfolding servedMark
   mark-unset e h =
-      split (passes w s) (λ t. absurd (h (passes-shown t))) (λ t. eqb-true (sec w 6 s) 0 (rw t at e))
+      split (passes w s) (λ t. absurd (h (passes-shown t))) (λ t. eqb-true (sec w SERVED s) 0 (rw t at e))
 
-  pub mark-so : (Passed w s → sec w 6 s ≡ 1) → ((Passed w s → ⊥) → sec w 6 s ≡ 0) → servedMark w s ≡ true
+  pub mark-so : (Passed w s → sec w SERVED s ≡ 1) → ((Passed w s → ⊥) → sec w SERVED s ≡ 0) → servedMark w s ≡ true
   unfolding servedMark
   mark-so f g =
       split (passes w s)
-      (λ t. rw t (eq-eqb (sec w 6 s) 1 (f (passes-shown t))))
-      (λ t. rw t (eq-eqb (sec w 6 s) 0 (g (λ h. true≢false (sym (passes-so h) ∙ t)))))
+      (λ t. rw t (eq-eqb (sec w SERVED s) 1 (f (passes-shown t))))
+      (λ t. rw t (eq-eqb (sec w SERVED s) 0 (g (λ h. true≢false (sym (passes-so h) ∙ t)))))

@@ -9,7 +9,8 @@ use borrow.Author.Tests.{ltb-true, ltb-false, leb-true, leb-false, le-leb, lt-le
 use Rattle.base.specs.Choice.{split, and-left}
 use Rattle.base.specs.All.{all-at}
 use Rattle.base.specs.Halving.{Rising, Bracket}
-use Rattle.repository.specs.Sections.{size, sec, stops, routes, rows}
+use Rattle.repository.specs.Sections.{size, sec, stops, routes, rows, CALL-STARTS, CALLS, ROUTE-STOP-STARTS}
+use Rattle.repository.specs.Sections.{ROUTE-STOPS, CALL-WORDS, callRoute}
 use Rattle.repository.specs.NetOf.{count}
 use Rattle.repository.specs.Laid.{Laid}
 use Rattle.repository.specs.Listed.{some, routeStops, later, ascending, callsRise, calls, called}
@@ -21,7 +22,7 @@ use Rattle.repository_calls.proofs.Facts.{index-shown}
 use Rattle.repository_calls.proofs.Entries.{stop-room}
 
 -- ---- halves
-module _ (w : List ℕ) (a r i : ℕ) {q : ℕ} (e : q ≡ sec w 5 ((a + i) * 3)) where
+module _ (w : List ℕ) (a r i : ℕ) {q : ℕ} (e : q ≡ callRoute w (a + i)) where
   pub route-before : q < r → reached w a r i ≡ false
   unfolding reached
   route-before h = rw (← e) (lt-leb r q h)
@@ -38,64 +39,64 @@ bracket-shut {t} {n} {lo} {hi} b h =
 
 -- ---- routes ascend
 module _ (w : List ℕ) (s : ℕ) (t : callsRise w ≡ true) (hs : s < stops w) where
-  step : (j : ℕ) → sec w 4 s + 1 ≤ j → j < sec w 4 (s + 1) → sec w 5 ((j - 1) * 3) < sec w 5 (j * 3)
+  step : (j : ℕ) → sec w CALL-STARTS s + 1 ≤ j → j < sec w CALL-STARTS (s + 1) → callRoute w (j - 1) < callRoute w j
   unfolding callsRise ascending later
   step j from to =
       let rise = all-at (ascending w) 0 (stops w) t s (omega arith) hs in
-      ltb-true _ _ (all-at (later w) (sec w 4 s + 1) (sec w 4 (s + 1)) rise j from to)
+      ltb-true _ _ (all-at (later w) (sec w CALL-STARTS s + 1) (sec w CALL-STARTS (s + 1)) rise j from to)
 
-  climb : (d x : ℕ) → sec w 4 s ≤ x → x + suc d < sec w 4 (s + 1) → sec w 5 (x * 3) < sec w 5 ((x + suc d) * 3)
+  climb : (d x : ℕ) → sec w CALL-STARTS s ≤ x → x + suc d < sec w CALL-STARTS (s + 1) → callRoute w x < callRoute w (x + suc d)
   climb zero x from to =
       let next : x + suc 0 - 1 ≡ x = omega arith in
       rw next at (step (x + suc 0) (omega arith) to)
   climb (suc d) x from to =
       let next : x + suc (suc d) - 1 ≡ x + suc d = omega arith in
-      let last : sec w 5 ((x + suc d) * 3) < sec w 5 ((x + suc (suc d)) * 3) =
+      let last : callRoute w (x + suc d) < callRoute w (x + suc (suc d)) =
       rw next at (step (x + suc (suc d)) (omega arith) to) in
       omega (arith, climb d x from (omega arith))
 
-  route-later : (x y : ℕ) → sec w 4 s ≤ x → x < y → y < sec w 4 (s + 1) → sec w 5 (x * 3) < sec w 5 (y * 3)
+  route-later : (x y : ℕ) → sec w CALL-STARTS s ≤ x → x < y → y < sec w CALL-STARTS (s + 1) → callRoute w x < callRoute w y
   route-later x y from h to =
       let there : x + suc (y - suc x) ≡ y = omega arith in
       rw there at (climb (y - suc x) x from (omega arith))
 
 -- ---- the stop at position p of route r, and its n calls from row a on
-module _ {w : List ℕ} {r p s : ℕ} (l : Laid w) (t : routeStops w ≡ true) (hr : r < routes w) (hp : p < count w 11 r)
-    (es : s ≡ sec w 12 (sec w 11 r + p)) where
+module _ {w : List ℕ} {r p s : ℕ} (l : Laid w) (t : routeStops w ≡ true) (hr : r < routes w) (hp : p < count w ROUTE-STOP-STARTS r)
+    (es : s ≡ sec w ROUTE-STOPS (sec w ROUTE-STOP-STARTS r + p)) where
   stop-in : s < stops w
   unfolding routeStops
-  stop-in = rw es (index-shown w 12 (stops w) t (sec w 11 r + p) (stop-room l hr hp refl))
+  stop-in = rw es (index-shown w ROUTE-STOPS (stops w) t (sec w ROUTE-STOP-STARTS r + p) (stop-room l hr hp refl))
 
-  pub stop-word : s < size w 4
+  pub stop-word : s < size w CALL-STARTS
   stop-word = omega (arith, stop-in)
 
-  pub stop-entry : Entry w 4 s
+  pub stop-entry : Entry w CALL-STARTS s
   stop-entry = record { section = omega arith; word = omega (arith, stop-in); rise = l .call-starts .rise s stop-in }
 
-  module _ {a n : ℕ} (ea : a ≡ sec w 4 s) (en : n ≡ count w 4 s) where
-    end : a + n ≡ sec w 4 (s + 1)
+  module _ {a n : ℕ} (ea : a ≡ sec w CALL-STARTS s) (en : n ≡ count w CALL-STARTS s) where
+    end : a + n ≡ sec w CALL-STARTS (s + 1)
     unfolding count
     end = omega (arith, l .call-starts .rise s stop-in)
 
-    pub calls-room : a + n ≤ rows w 5 3
+    pub calls-room : a + n ≤ rows w CALLS CALL-WORDS
     calls-room = omega (arith, end, end-in (l .call-starts) (s + 1) (omega (arith, stop-in)))
 
-    pub call-room : (i : ℕ) → i < n → a + i < rows w 5 3
+    pub call-room : (i : ℕ) → i < n → a + i < rows w CALLS CALL-WORDS
     call-room i h = omega (arith, calls-room)
 
     module _ (u : callsRise w ≡ true) where
-      apart : (x y : ℕ) → x < y → y < n → sec w 5 ((a + x) * 3) < sec w 5 ((a + y) * 3)
+      apart : (x y : ℕ) → x < y → y < n → callRoute w (a + x) < callRoute w (a + y)
       apart x y h g = route-later w s u stop-in (a + x) (a + y) (omega arith) (omega arith) (omega (arith, end))
 
       pub calls-rising : Rising (reached w a r) n
       unfolding reached
       calls-rising = record { rising = down }
         where
-          down : (i j : ℕ) → i ≤ j → j < n → leb r (sec w 5 ((a + j) * 3)) ≡ false → leb r (sec w 5 ((a + i) * 3)) ≡ false
+          down : (i j : ℕ) → i ≤ j → j < n → leb r (callRoute w (a + j)) ≡ false → leb r (callRoute w (a + i)) ≡ false
           down i j h g e =
-              let far : sec w 5 ((a + j) * 3) < r = leb-false r (sec w 5 ((a + j) * 3)) e in
+              let far : callRoute w (a + j) < r = leb-false r (callRoute w (a + j)) e in
               split (ltb i j)
-              (λ q. lt-leb r (sec w 5 ((a + i) * 3)) (omega (arith, apart i j (ltb-true i j q) g)))
+              (λ q. lt-leb r (callRoute w (a + i)) (omega (arith, apart i j (ltb-true i j q) g)))
               (λ q. let same : i ≡ j = omega (arith, ltb-false i j q) in rw same e)
 
       rows-is : called w r p ≡ some (calls w r p) a (a + n)
@@ -104,21 +105,21 @@ module _ {w : List ℕ} {r p s : ℕ} (l : Laid w) (t : routeStops w ≡ true) (
 
       module _ {i : ℕ} (b : Bracket (reached w a r) n i i) where
         -- the one call that can name the route is row a + i
-        row-is : (x : ℕ) → a ≤ x → x < a + n → sec w 5 (x * 3) ≡ r → x ≡ a + i
+        row-is : (x : ℕ) → a ≤ x → x < a + n → callRoute w x ≡ r → x ≡ a + i
         unfolding reached
         row-is x from to e =
             let k = x - a in
             let there : a + k ≡ x = omega arith in
-            let route : sec w 5 ((a + k) * 3) ≡ r = rw there e in
+            let route : callRoute w (a + k) ≡ r = rw there e in
             split (ltb k i)
             (λ q.
-            let before : sec w 5 ((a + k) * 3) < r = leb-false r (sec w 5 ((a + k) * 3)) (b .below k (ltb-true k i q)) in
+            let before : callRoute w (a + k) < r = leb-false r (callRoute w (a + k)) (b .below k (ltb-true k i q)) in
             absurd (omega arith))
             (λ q.
             let up : i ≤ k = ltb-false k i q in
             split (ltb i k)
             (λ o.
-            let past : r ≤ sec w 5 ((a + i) * 3) = leb-true r (sec w 5 ((a + i) * 3)) (b .above (omega arith)) in
+            let past : r ≤ callRoute w (a + i) = leb-true r (callRoute w (a + i)) (b .above (omega arith)) in
             absurd (omega (arith, apart i k (ltb-true i k o) (omega arith))))
             (λ o. omega (arith, ltb-false i k o)))
 
@@ -127,7 +128,7 @@ module _ {w : List ℕ} {r p s : ℕ} (l : Laid w) (t : routeStops w ≡ true) (
         here e =
             let x = some-shown (calls w r p) a (a + n) (sym rows-is ∙ e) in
             let to = x .to in
-            let route = eqb-true (sec w 5 (x .at * 3)) r (and-left _ _ (and-left _ _ (x .passes))) in
+            let route = eqb-true (callRoute w (x .at)) r (and-left _ _ (and-left _ _ (x .passes))) in
             let is : x .at ≡ a + i = row-is (x .at) (x .from) (x .to) route in
             (omega arith, rw is at (x .passes))
 

@@ -6,13 +6,13 @@ use mathlib.Core.List.{List}
 use native.Mathlib.Omega.{arith}
 use borrow.Author.Tests.{lt-ltb, le-ltb, not-true}
 use Rattle.base.specs.All.{all, So, so-start, so-on, so-fails, so-passes}
-use Rattle.repository.specs.Sections.{sec}
+use Rattle.repository.specs.Sections.{sec, CALL-STARTS, ROUTE-STOP-STARTS, ROUTE-TRIP-STARTS, callRoute}
 use Rattle.repository.specs.NetOf.{count}
 use Rattle.repository.specs.Listed.{fails, some, later, ascending, called, calledAlong, running, passes}
 use Rattle.repository_calls.proofs.Turns.{rest-pass, rest-fail}
 
 -- ---- the calls of a stop, from the second on
-module _ (w : List ℕ) (s : ℕ) {a e : ℕ} (ea : a ≡ sec w 4 s) (ee : e ≡ sec w 4 (s + 1)) where
+module _ (w : List ℕ) (s : ℕ) {a e : ℕ} (ea : a ≡ sec w CALL-STARTS s) (ee : e ≡ sec w CALL-STARTS (s + 1)) where
   pub one-call : e ≤ a → true ≡ ascending w s
   unfolding ascending
   one-call h = rw (← ea, ← ee) (sym (so-passes (so-start {f = later w} {a = a + 1}) (omega arith)))
@@ -32,7 +32,7 @@ module _ (w : List ℕ) (s : ℕ) {a e : ℕ} (ea : a ≡ sec w 4 s) (ee : e ≡
     unfolding passes some
     none-runs g = rw (← ea, ← ee, so-passes h g)
 
-    module _ {r q : ℕ} (l : j < e) (er : r ≡ sec w 5 (j * 3)) (eq : q ≡ count w 13 r) where
+    module _ {r q : ℕ} (l : j < e) (er : r ≡ callRoute w j) (eq : q ≡ count w ROUTE-TRIP-STARTS r) where
       pub one-runs : 0 < q → true ≡ passes w s
       unfolding passes some fails running
       one-runs g = rw (← ea, ← ee, so-fails h l (rw (← er, ← eq, lt-ltb 0 q g)))
@@ -43,7 +43,7 @@ module _ (w : List ℕ) (s : ℕ) {a e : ℕ} (ea : a ≡ sec w 4 s) (ee : e ≡
 
 -- ---- the positions of a route
 module _ (w : List ℕ) {n c r e p : ℕ} (h : So (calledAlong w) 0 n r) (q : c ≡ n) (l : r < c) (m : So (called w r) 0 e p)
-    (to : e ≡ count w 11 r) where
+    (to : e ≡ count w ROUTE-STOP-STARTS r) where
   along : calledAlong w r ≡ all (called w r) 0 e
   unfolding calledAlong
   along = rw to

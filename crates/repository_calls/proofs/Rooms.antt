@@ -8,23 +8,23 @@ use lib.Dec.{ltb}
 use borrow.Author.Tests.{ltb-true, ltb-false}
 use lib.ListN.{length}
 use Rattle.base.specs.Choice.{split}
-use Rattle.repository.specs.Sections.{start, size, sec}
+use Rattle.repository.specs.Sections.{start, size, sec, SECTIONS}
 use Rattle.repository.specs.Laid.{Laid, Starts}
 use Rattle.repository.specs.Accepted.{Under}
 
 module _ {w : List ℕ} (l : Laid w) where
-  reach : (d k : ℕ) → k + d ≡ 19 → start w k ≤ length w
+  reach : (d k : ℕ) → k + d ≡ SECTIONS → start w k ≤ length w
   reach zero k e =
-      let last : k ≡ 19 = omega arith in
+      let last : k ≡ SECTIONS = omega arith in
       rw last (omega arith)
   reach (suc d) k e = omega (arith, l .rise k (omega arith), reach d (k + 1) (omega arith))
 
-  pub section-in : (k : ℕ) {a b : ℕ} → k < 19 → a ≡ start w k → b ≡ start w (k + 1) → a ≤ b
+  pub section-in : (k : ℕ) {a b : ℕ} → k < SECTIONS → a ≡ start w k → b ≡ start w (k + 1) → a ≤ b
   section-in k h e f = omega (arith, l .rise k h)
 
-  pub word-in : (k i : ℕ) → k < 19 → i < size w k → start w k + i < length w
+  pub word-in : (k i : ℕ) → k < SECTIONS → i < size w k → start w k + i < length w
   unfolding size
-  word-in k i h g = omega (arith, reach (18 - k) (k + 1) (omega arith))
+  word-in k i h g = omega (arith, reach (SECTIONS - (k + 1)) (k + 1) (omega arith))
 
 -- the entry that row j stands under
 pub record RowOf (w : List ℕ) (k n j : ℕ) : Type 0 where

@@ -3,8 +3,8 @@ use Prim.Native.Nat.{ℕ, _+_, _*_}
 use mathlib.Core.Bool.{Bool}
 use mathlib.Core.List.{List}
 use lib.Dec.{leb}
-use Rattle.repository.specs.Sections.{sec}
+use Rattle.repository.specs.Sections.{callRoute}
 
 -- the i-th row of the calls from row a on names route r or a later one
 unfoldable pub reached : List ℕ → ℕ → ℕ → ℕ → Bool
-reached w a r i = leb r (sec w 5 ((a + i) * 3))
+reached w a r i = leb r (callRoute w (a + i))

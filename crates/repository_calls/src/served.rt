@@ -8,6 +8,7 @@ ghost use Rattle.repository.specs.Listed.{callsHold, passes, servedMark, served
 use crate::words::count_of;
 use crate::words::item;
 use crate::words::size_of;
+use repository::sections;
 
 // Whether a trip passes stop s.
 fn passed(tables: &[u32], s: u32) -> bool
@@ -16,11 +17,11 @@ fn passed(tables: &[u32], s: u32) -> bool
     requires { ⌜ s < stops (now tables) ⌝ }
     ensures { λ ok. ⌜ ok ≡ passes (now (tables .entry)) s ⌝ }
 {
-    let mut j = item(tables, 4, s as usize);
-    let end = item(tables, 4, s as usize + 1);
+    let mut j = item(tables, sections::CALL_STARTS, s as usize);
+    let end = item(tables, sections::CALL_STARTS, s as usize + 1);
     while j < end {
-        let r = item(tables, 5, j as usize * 3);
-        if count_of(tables, 13, r) > 0 {
+        let r = item(tables, sections::CALLS, j as usize * sections::CALL_WORDS);
+        if count_of(tables, sections::ROUTE_TRIP_STARTS, r) > 0 {
             return true;
         }
         j += 1;
@@ -34,7 +35,7 @@ fn served_mark_ok(tables: &[u32], s: u32) -> bool
     requires { ⌜ s < stops (now tables) ⌝ }
     ensures { λ ok. ⌜ ok ≡ servedMark (now (tables .entry)) s ⌝ }
 {
-    let mark = item(tables, 6, s as usize);
+    let mark = item(tables, sections::SERVED, s as usize);
     if passed(tables, s) {
         return mark == 1;
     }
@@ -47,7 +48,7 @@ pub fn served_ok(tables: &[u32]) -> bool
     requires { ⌜ callsHold (now tables) ≡ true ⌝ }
     ensures { λ ok. ⌜ ok ≡ served (now (tables .entry)) ⌝ }
 {
-    let n = size_of(tables, 0);
+    let n = size_of(tables, sections::STOP_LIST);
     let mut s: u32 = 0;
     while s < n {
         if !served_mark_ok(tables, s) {

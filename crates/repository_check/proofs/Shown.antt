@@ -14,8 +14,8 @@ use Rattle.base.specs.All.{all, all-at}
 use Rattle.shared.specs.Walk.{stretch, Stretch}
 use Rattle.model.specs.Moments.{MAX}
 use Rattle.model.specs.Tables.{Net}
-use Rattle.repository.specs.Sections.{sec, rows}
-use Rattle.repository.specs.NetOf.{metres}
+use Rattle.repository.specs.Sections.{rows, TRANSFERS, WALKS, TRANSFER-WORDS, WALK-WORDS, transferStated}
+use Rattle.repository.specs.Sections.{transferMetres}
 use Rattle.repository.specs.Checked.{timely, timed, behind, ordered, measured}
 use Rattle.repository.specs.Accepted.{Timed, Ordered, Measured}
 use Rattle.repository_shape.proofs.Joined.{joined, joined-at}
@@ -132,7 +132,7 @@ module _ (n : Net) where
 
 module _ (w : List ℕ) where
   abbrev measuredTests : List Bool
-  measuredTests = all (transferFit w) 0 (rows w 8 4) ∷ all (walkFit w) 0 (rows w 10 2) ∷ []
+  measuredTests = all (transferFit w) 0 (rows w TRANSFERS TRANSFER-WORDS) ∷ all (walkFit w) 0 (rows w WALKS WALK-WORDS) ∷ []
 
   measured-is : measured w ≡ joined true measuredTests
   unfolding measured transferFit walkFit
@@ -141,40 +141,40 @@ module _ (w : List ℕ) where
   measured-at : measured w ≡ true → (k : ℕ) → getD measuredTests k true ≡ true
   measured-at e = joined-at true measuredTests (sym measured-is ∙ e)
 
-  transfer-at : measured w ≡ true → (j : ℕ) → j < rows w 8 4 → transferFit w j ≡ true
-  transfer-at e j g = all-at (transferFit w) 0 (rows w 8 4) (measured-at e 0) j (omega arith) g
+  transfer-at : measured w ≡ true → (j : ℕ) → j < rows w TRANSFERS TRANSFER-WORDS → transferFit w j ≡ true
+  transfer-at e j g = all-at (transferFit w) 0 (rows w TRANSFERS TRANSFER-WORDS) (measured-at e 0) j (omega arith) g
 
   pub measured-shown : measured w ≡ true → Measured w
   unfolding transferFit walkFit
   measured-shown e = record {
     spans = spans;
     transfers = transfers;
-    walks = λ j g. all-at (walkFit w) 0 (rows w 10 2) (measured-at e 1) j (omega arith) g;
+    walks = λ j g. all-at (walkFit w) 0 (rows w WALKS WALK-WORDS) (measured-at e 1) j (omega arith) g;
   }
     where
-      spans : (j : ℕ) → j < rows w 8 4 → (sec w 8 (j * 4 + 2) ≡ MAX) ⊎ (sec w 8 (j * 4 + 2) ≤ 86_400)
+      spans : (j : ℕ) → j < rows w TRANSFERS TRANSFER-WORDS → (transferStated w j ≡ MAX) ⊎ (transferStated w j ≤ 86_400)
       spans j g =
-          let span = sec w 8 (j * 4 + 2) in
+          let span = transferStated w j in
           shown-either {a = eqb span MAX} {b = leb span 86_400} (eqb-true span MAX) (leb-true span 86_400)
-          (and-left (eqb span MAX || leb span 86_400) (stretch (metres (sec w 8 (j * 4 + 3)))) (transfer-at e j g))
+          (and-left (eqb span MAX || leb span 86_400) (stretch (transferMetres w j)) (transfer-at e j g))
 
-      transfers : (j : ℕ) → j < rows w 8 4 → Stretch (metres (sec w 8 (j * 4 + 3)))
+      transfers : (j : ℕ) → j < rows w TRANSFERS TRANSFER-WORDS → Stretch (transferMetres w j)
       transfers j g =
-          let span = sec w 8 (j * 4 + 2) in
-          and-right (eqb span MAX || leb span 86_400) (stretch (metres (sec w 8 (j * 4 + 3)))) (transfer-at e j g)
+          let span = transferStated w j in
+          and-right (eqb span MAX || leb span 86_400) (stretch (transferMetres w j)) (transfer-at e j g)
 
   pub measured-so : Measured w → measured w ≡ true
   unfolding transferFit walkFit
   measured-so h =
       rw (
         measured-is,
-        all-so (transferFit w) 0 (rows w 8 4) fits,
-        all-so (walkFit w) 0 (rows w 10 2) (λ j _ g. h .walks j g),
+        all-so (transferFit w) 0 (rows w TRANSFERS TRANSFER-WORDS) fits,
+        all-so (walkFit w) 0 (rows w WALKS WALK-WORDS) (λ j _ g. h .walks j g),
       )
     where
-      fits : (j : ℕ) → 0 ≤ j → j < rows w 8 4 → transferFit w j ≡ true
+      fits : (j : ℕ) → 0 ≤ j → j < rows w TRANSFERS TRANSFER-WORDS → transferFit w j ≡ true
       fits j _ g =
-          let span = sec w 8 (j * 4 + 2) in
+          let span = transferStated w j in
           let spans : eqb span MAX || leb span 86_400 ≡ true =
           either-so (eq-eqb span MAX) (le-leb span 86_400) (h .spans j g) in
           rw (spans, h .transfers j g)

@@ -1,38 +1,43 @@
 -- What the answers of the tests for numbers 3 and 4 come to.
-use Prim.Native.Nat.{ℕ, zero, suc, _+_, _-_, _*_, _≤_, _<_}
+use Prim.Native.Nat.{ℕ, zero, suc, _+_, _-_, _*_, _/_, _≤_, _<_}
 use mathlib.Core.Path.{_≡_, refl, sym, _∙_}
-use mathlib.Core.Bool.{Bool, true, false, _&&_, and-true, true≢false}
+use mathlib.Core.Bool.{Bool, true, false, _&&_, _||_, and-true, true≢false}
 use mathlib.Core.List.{List}
 use native.Mathlib.Omega.{arith}
 use native.Mathlib.Numerals.{add-one}
-use lib.Dec.{leb}
+use lib.Dec.{leb, eqb}
 use borrow.Author.Tests.{le-leb, lt-leb}
 use Rattle.base.specs.Choice.{split}
+use Rattle.base.specs.All.{all}
+use Rattle.shared.specs.Walk.{stretch}
+use Rattle.model.specs.Moments.{MAX}
 use Rattle.model.specs.Tables.{Net}
-use Rattle.repository.specs.Sections.{sec}
+use Rattle.repository.specs.Sections.{size, sec, TRANSFERS, WALKS, TIME-STARTS, TIMES, TRANSFER-WORDS, WALK-WORDS}
+use Rattle.repository.specs.Sections.{TIME-WORDS, transferStated, transferBits, walkBits, arrivalIn, metres}
 use Rattle.repository.specs.NetOf.{netOf}
-use Rattle.repository.specs.Checked.{walk, timely, behind, ordered}
+use Rattle.repository.specs.Checked.{walk, timely, behind, ordered, measured}
+use Rattle.repository_check.specs.Distances.{transferFit, walkFit}
 use Rattle.repository_check.proofs.Walk.{walk-at, walk-so}
 
 -- the times of a row
-module _ (w : List ℕ) (r p i : ℕ) {j : ℕ} (ej : j ≡ sec w 15 (netOf w .tripAt r i) + p) where
-  pub arrival-is : {a : ℕ} → a ≡ sec w 16 (j * 2) → a ≡ netOf w .arrival (netOf w .tripAt r i) p
+module _ (w : List ℕ) (r p i : ℕ) {j : ℕ} (ej : j ≡ sec w TIME-STARTS (netOf w .tripAt r i) + p) where
+  pub arrival-is : {a : ℕ} → a ≡ sec w TIMES (j * TIME-WORDS) → a ≡ netOf w .arrival (netOf w .tripAt r i) p
   unfolding netOf
   arrival-is ea = rw (ea, ej)
 
-  pub departure-is : {d : ℕ} → d ≡ sec w 16 (j * 2 + 1) → d ≡ netOf w .departure (netOf w .tripAt r i) p
+  pub departure-is : {d : ℕ} → d ≡ sec w TIMES (j * TIME-WORDS + 1) → d ≡ netOf w .departure (netOf w .tripAt r i) p
   unfolding netOf
   departure-is ed = rw (ed, ej)
 
-  pub next-is : {a : ℕ} → a ≡ sec w 16 ((j + 1) * 2) → a ≡ netOf w .arrival (netOf w .tripAt r i) (p + 1)
+  pub next-is : {a : ℕ} → a ≡ arrivalIn w j 1 → a ≡ netOf w .arrival (netOf w .tripAt r i) (p + 1)
   unfolding netOf
   next-is ea =
-      let e : j + 1 ≡ sec w 15 (netOf w .tripAt r i) + (p + 1) = omega arith in
+      let e : j + 1 ≡ sec w TIME-STARTS (netOf w .tripAt r i) + (p + 1) = omega arith in
       rw (ea, e)
 
-  module _ {a d end : ℕ} (ea : a ≡ sec w 16 (j * 2)) (ed : d ≡ sec w 16 (j * 2 + 1)) (ee : end ≡ netOf w .positions r)
+  module _ {a d end : ℕ} (ea : a ≡ sec w TIMES (j * TIME-WORDS)) (ed : d ≡ sec w TIMES (j * TIME-WORDS + 1)) (ee : end ≡ netOf w .positions r)
     where
-      pub timely-next : {b : ℕ} → p + 1 < end → b ≡ sec w 16 ((j + 1) * 2)
+      pub timely-next : {b : ℕ} → p + 1 < end → b ≡ arrivalIn w j 1
           → leb 1 a && leb a d && leb d 1_000_000 && leb d b ≡ timely (netOf w) r p i
       unfolding timely
       timely-next g eb = rw (← ee, lt-leb end (p + 1) g, ← arrival-is ea, ← departure-is ed, ← next-is eb)
@@ -99,3 +104,19 @@ from-first n false e =
 pub ordered-is : (n : Net) {b : Bool} → b ≡ walk n 0 (behind n) → b ≡ ordered n
 unfolding ordered
 ordered-is n {b} e = sym (from-first n b (sym e))
+
+-- number 5, by the words that were read
+module _ (w : List ℕ) (j : ℕ) {x : ℕ} {b : Bool} where
+  pub walk-fit-is : x ≡ walkBits w j → b ≡ stretch (metres x) → b ≡ walkFit w j
+  unfolding walkFit
+  walk-fit-is e f = rw e at f
+
+  pub transfer-fit-is : {y : ℕ} → y ≡ transferStated w j → x ≡ transferBits w j → b ≡ stretch (metres x)
+      → (eqb y MAX || leb y 86_400) && b ≡ transferFit w j
+  unfolding transferFit
+  transfer-fit-is d e f = rw (f, d, e)
+
+pub measured-is : (w : List ℕ) {y z : ℕ} {t u : Bool} → y ≡ size w TRANSFERS → z ≡ size w WALKS → t ≡ all (transferFit w) 0 (y / TRANSFER-WORDS)
+    → u ≡ all (walkFit w) 0 (z / WALK-WORDS) → t && u ≡ measured w
+unfolding measured transferFit walkFit
+measured-is w ey ez et eu = rw (et, eu, ey, ez)

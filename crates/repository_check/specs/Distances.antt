@@ -5,12 +5,11 @@ use mathlib.Core.List.{List}
 use lib.Dec.{leb, eqb}
 use Rattle.shared.specs.Walk.{stretch}
 use Rattle.model.specs.Moments.{MAX}
-use Rattle.repository.specs.Sections.{sec}
-use Rattle.repository.specs.NetOf.{metres}
+use Rattle.repository.specs.Sections.{transferStated, transferMetres, walkMetres}
 
 unfoldable pub transferFit : List ℕ → ℕ → Bool
 transferFit w j =
-    (eqb (sec w 8 (j * 4 + 2)) MAX || leb (sec w 8 (j * 4 + 2)) 86_400) && stretch (metres (sec w 8 (j * 4 + 3)))
+    (eqb (transferStated w j) MAX || leb (transferStated w j) 86_400) && stretch (transferMetres w j)
 
 unfoldable pub walkFit : List ℕ → ℕ → Bool
-walkFit w j = stretch (metres (sec w 10 (j * 2 + 1)))
+walkFit w j = stretch (walkMetres w j)

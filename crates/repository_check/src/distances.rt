@@ -2,33 +2,46 @@
 ghost use mathlib.Core.Path.{_≡_};
 ghost use Prim.Native.Nat.{_<_};
 ghost use Rattle.base.specs.All.{all};
-ghost use Rattle.repository.specs.Sections.{rows};
+ghost use Rattle.repository.specs.Sections.{rows, TRANSFERS, WALKS, TRANSFER-WORDS, WALK-WORDS};
 ghost use Rattle.repository.specs.Laid.{Laid};
 ghost use Rattle.repository.specs.Checked.{measured};
 ghost use Rattle.repository_check.specs.Distances.{transferFit, walkFit};
+use repository::sections;
 
 fn transfer_ok(tables: &[u32], j: usize) -> bool
     requires { ⌜ Laid (now tables) ⌝ }
-    requires { ⌜ j < rows (now tables) 8 4 ⌝ }
+    requires { ⌜ j < rows (now tables) TRANSFERS TRANSFER-WORDS ⌝ }
     ensures { λ ok. ⌜ ok ≡ transferFit (now (tables .entry)) j ⌝ }
 {
-    let span = repository::word(tables, 8, j * 4 + 2);
-    let bits = repository::word(tables, 8, j * 4 + 3);
+    let span = repository::word(
+        tables,
+        sections::TRANSFERS,
+        j * sections::TRANSFER_WORDS + sections::TRANSFER_STATED,
+    );
+    let bits = repository::word(
+        tables,
+        sections::TRANSFERS,
+        j * sections::TRANSFER_WORDS + sections::TRANSFER_METRES,
+    );
     ((span == 4_294_967_295) | (span <= 86_400)) & shared::distance_ok(bits)
 }
 
 fn walk_ok(tables: &[u32], j: usize) -> bool
     requires { ⌜ Laid (now tables) ⌝ }
-    requires { ⌜ j < rows (now tables) 10 2 ⌝ }
+    requires { ⌜ j < rows (now tables) WALKS WALK-WORDS ⌝ }
     ensures { λ ok. ⌜ ok ≡ walkFit (now (tables .entry)) j ⌝ }
 {
-    let bits = repository::word(tables, 10, j * 2 + 1);
+    let bits = repository::word(
+        tables,
+        sections::WALKS,
+        j * sections::WALK_WORDS + sections::WALK_METRES,
+    );
     shared::distance_ok(bits)
 }
 
 fn transfers_ok(tables: &[u32], m: usize) -> bool
     requires { ⌜ Laid (now tables) ⌝ }
-    requires { ⌜ m ≡ rows (now tables) 8 4 ⌝ }
+    requires { ⌜ m ≡ rows (now tables) TRANSFERS TRANSFER-WORDS ⌝ }
     ensures { λ ok. ⌜ ok ≡ all (transferFit (now (tables .entry))) 0 m ⌝ }
 {
     let mut j = 0;
@@ -45,7 +58,7 @@ fn transfers_ok(tables: &[u32], m: usize) -> bool
 
 fn walks_ok(tables: &[u32], m: usize) -> bool
     requires { ⌜ Laid (now tables) ⌝ }
-    requires { ⌜ m ≡ rows (now tables) 10 2 ⌝ }
+    requires { ⌜ m ≡ rows (now tables) WALKS WALK-WORDS ⌝ }
     ensures { λ ok. ⌜ ok ≡ all (walkFit (now (tables .entry))) 0 m ⌝ }
 {
     let mut j = 0;
@@ -65,7 +78,8 @@ pub fn distances_ok(tables: &[u32]) -> bool
     requires { ⌜ Laid (now tables) ⌝ }
     ensures { λ ok. ⌜ ok ≡ measured (now (tables .entry)) ⌝ }
 {
-    let transfers = repository_shape::size_of(tables, 8) / 4;
-    let walks = repository_shape::size_of(tables, 10) / 2;
+    let transfers = repository_shape::size_of(tables, sections::TRANSFERS)
+        / sections::TRANSFER_WORDS;
+    let walks = repository_shape::size_of(tables, sections::WALKS) / sections::WALK_WORDS;
     transfers_ok(tables, transfers) & walks_ok(tables, walks)
 }

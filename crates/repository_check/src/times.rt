@@ -2,12 +2,13 @@
 ghost use mathlib.Core.Path.{_≡_};
 ghost use Prim.Native.Nat.{_+_, _*_, _≤_, _<_};
 ghost use lib.ListN.{length};
-ghost use Rattle.repository.specs.Sections.{start, sec};
+ghost use Rattle.repository.specs.Sections.{start, sec, TIME-STARTS, TIMES, TIME-WORDS};
 ghost use Rattle.repository.specs.NetOf.{netOf};
 ghost use Rattle.repository.specs.Laid.{Laid};
 ghost use Rattle.repository.specs.Accepted.{Listed};
 ghost use Rattle.repository.specs.Checked.{timely, timed, ordered};
 ghost use Rattle.repository_check.specs.Stands.{Stands};
+use repository::sections;
 
 // When a trip arrives at a position, and when it departs from there.
 struct StopTime {
@@ -19,7 +20,7 @@ fn routes(tables: &[u32]) -> usize
     requires { ⌜ Laid (now tables) ⌝ }
     ensures { λ m. ⌜ m ≡ netOf (now (tables .entry)) .routes ⌝ }
 {
-    repository_shape::entries(tables, 11)
+    repository_shape::entries(tables, sections::ROUTE_STOP_STARTS)
 }
 
 fn positions(tables: &[u32], r: usize) -> usize
@@ -27,7 +28,7 @@ fn positions(tables: &[u32], r: usize) -> usize
     requires { ⌜ r < netOf (now tables) .routes ⌝ }
     ensures { λ m. ⌜ m ≡ netOf (now (tables .entry)) .positions r ⌝ }
 {
-    repository_shape::count_of(tables, 11, r)
+    repository_shape::count_of(tables, sections::ROUTE_STOP_STARTS, r)
 }
 
 fn trips(tables: &[u32], r: usize) -> usize
@@ -35,21 +36,21 @@ fn trips(tables: &[u32], r: usize) -> usize
     requires { ⌜ r < netOf (now tables) .routes ⌝ }
     ensures { λ m. ⌜ m ≡ netOf (now (tables .entry)) .trips r ⌝ }
 {
-    repository_shape::count_of(tables, 13, r)
+    repository_shape::count_of(tables, sections::ROUTE_TRIP_STARTS, r)
 }
 
 // The row of the times for the trip at place i of route r, at position p. The rows for the positions that follow stand
 // behind it, within the words.
 fn row_at(tables: &[u32], r: usize, p: usize, i: usize) -> usize
     requires { ⌜ Stands (now tables) r p i ⌝ }
-    ensures { λ j. ⌜ j ≡ sec (now (tables .entry)) 15 (netOf (now (tables .entry)) .tripAt r i) + p ⌝ }
+    ensures { λ j. ⌜ j ≡ sec (now (tables .entry)) TIME-STARTS (netOf (now (tables .entry)) .tripAt r i) + p ⌝ }
     ensures { λ j.
-        ⌜ start (now (tables .entry)) 16 + (j + netOf (now (tables .entry)) .positions r) * 2
-        ≤ length (now (tables .entry)) + p * 2 ⌝ }
+        ⌜ start (now (tables .entry)) TIMES + (j + netOf (now (tables .entry)) .positions r) * TIME-WORDS
+        ≤ length (now (tables .entry)) + p * TIME-WORDS ⌝ }
 {
-    let place = repository::word(tables, 13, r) as usize + i;
-    let trip = repository::word(tables, 14, place) as usize;
-    repository::word(tables, 15, trip) as usize + p
+    let place = repository::word(tables, sections::ROUTE_TRIP_STARTS, r) as usize + i;
+    let trip = repository::word(tables, sections::ROUTE_TRIPS, place) as usize;
+    repository::word(tables, sections::TIME_STARTS, trip) as usize + p
 }
 
 fn stop_time(tables: &[u32], r: usize, p: usize, i: usize) -> StopTime
@@ -58,8 +59,12 @@ fn stop_time(tables: &[u32], r: usize, p: usize, i: usize) -> StopTime
     ensures { λ t. ⌜ t .departure ≡ netOf (now (tables .entry)) .departure (netOf (now (tables .entry)) .tripAt r i) p ⌝ }
 {
     let j = row_at(tables, r, p, i);
-    let arrival = repository::word(tables, 16, j * 2);
-    let departure = repository::word(tables, 16, j * 2 + 1);
+    let arrival = repository::word(tables, sections::TIMES, j * sections::TIME_WORDS);
+    let departure = repository::word(
+        tables,
+        sections::TIMES,
+        j * sections::TIME_WORDS + sections::DEPARTURE,
+    );
     StopTime {
         arrival: arrival,
         departure: departure,
@@ -74,11 +79,15 @@ fn time_ok(tables: &[u32], r: usize, p: usize, i: usize, end: usize) -> bool
     ensures { λ ok. ⌜ ok ≡ timely (netOf (now (tables .entry))) r p i ⌝ }
 {
     let j = row_at(tables, r, p, i);
-    let arrival = repository::word(tables, 16, j * 2);
-    let departure = repository::word(tables, 16, j * 2 + 1);
+    let arrival = repository::word(tables, sections::TIMES, j * sections::TIME_WORDS);
+    let departure = repository::word(
+        tables,
+        sections::TIMES,
+        j * sections::TIME_WORDS + sections::DEPARTURE,
+    );
     let stays = (1 <= arrival) & (arrival <= departure) & (departure <= 1_000_000);
     if p + 1 < end {
-        let next = repository::word(tables, 16, (j + 1) * 2);
+        let next = repository::word(tables, sections::TIMES, (j + 1) * sections::TIME_WORDS);
         return stays & (departure <= next);
     }
     stays

@@ -9,7 +9,10 @@ use lib.Dec.{eqb}
 use borrow.Author.Tests.{lt-ltb, eqb-false, eq-eqb}
 use Rattle.base.specs.Choice.{split}
 use Rattle.model.specs.Moments.{MAX}
-use Rattle.repository.specs.Sections.{size, sec, stops, routes, trips, areas, rows}
+use Rattle.repository.specs.Sections.{size, sec, stops, routes, trips, areas, rows, STOP-LIST, STATIONS, CHILD-STARTS}
+use Rattle.repository.specs.Sections.{CHILDREN, CALL-STARTS, TRANSFER-STARTS, WALKS, ROUTE-STOP-STARTS, ROUTE-STOPS}
+use Rattle.repository.specs.Sections.{ROUTE-TRIP-STARTS, ROUTE-TRIPS, AREA-STARTS, AREA-STOPS, WALK-WORDS}
+use Rattle.repository.specs.Sections.{transferFrom}
 use Rattle.repository.specs.NetOf.{count}
 use Rattle.repository.specs.Laid.{Laid}
 use Rattle.repository.specs.Listed.{among, inPlace, stopList, station, stations, child, ofStation, childrenName}
@@ -26,7 +29,7 @@ use Rattle.repository_calls.proofs.CallRows.{call-so, called-so, mark-so}
 module _ {w : List ℕ} (l : Laid w) (h : Listed w) where
   places : stopList w ≡ true
   unfolding stopList inPlace
-  places = each-so (inPlace w) (stops w) (λ s g. eq-eqb (sec w 0 s) s (h .stop-list s g))
+  places = each-so (inPlace w) (stops w) (λ s g. eq-eqb (sec w STOP-LIST s) s (h .stop-list s g))
 
   parents : stations w ≡ true
   unfolding stations station
@@ -34,48 +37,48 @@ module _ {w : List ℕ} (l : Laid w) (h : Listed w) where
       each-so (station w) (stops w)
       (λ s g.
       or-so _ _
-      (⊎-elim (λ e. inl (eq-eqb (sec w 1 s) MAX e)) (λ e. inr (lt-ltb (sec w 1 s) (stops w) e)) (h .station-in s g)))
+      (⊎-elim (λ e. inl (eq-eqb (sec w STATIONS s) MAX e)) (λ e. inr (lt-ltb (sec w STATIONS s) (stops w) e)) (h .station-in s g)))
 
   named : childrenName w ≡ true
   unfolding childrenName child
   named =
-      under-so w 2 (stops w) (child w)
+      under-so w CHILD-STARTS (stops w) (child w)
       (λ p j g u.
-      rw (lt-ltb (sec w 3 j) (stops w) (h .child-in p j g u)) (eq-eqb (sec w 1 (sec w 3 j)) p (h .child-of p j g u)))
+      rw (lt-ltb (sec w CHILDREN j) (stops w) (h .child-in p j g u)) (eq-eqb (sec w STATIONS (sec w CHILDREN j)) p (h .child-of p j g u)))
 
   found : childrenAll w ≡ true
   unfolding childrenAll ofStation among
   found =
       each-so (ofStation w) (stops w)
       (λ s g.
-      split (eqb (sec w 1 s) MAX)
+      split (eqb (sec w STATIONS s) MAX)
       (λ e. rw e)
       (λ e.
-      let x = h .child-all s g (eqb-false (sec w 1 s) MAX e) in
+      let x = h .child-all s g (eqb-false (sec w STATIONS s) MAX e) in
       rw e
-      (some-so (λ j. eqb (sec w 3 j) s) 0 (size w 3)
-      (record { at = x .0; from = omega arith; to = x .1; passes = eq-eqb (sec w 3 (x .0)) s (x .2) }))))
+      (some-so (λ j. eqb (sec w CHILDREN j) s) 0 (size w CHILDREN)
+      (record { at = x .0; from = omega arith; to = x .1; passes = eq-eqb (sec w CHILDREN (x .0)) s (x .2) }))))
 
   stations-whole : children w ≡ true
   unfolding children
-  stations-whole = rw (named, distinct-so w 3 0 (size w 3) (λ i j from. h .child-once i j)) found
+  stations-whole = rw (named, distinct-so w CHILDREN 0 (size w CHILDREN) (λ i j from. h .child-once i j)) found
 
   stops-in : routeStops w ≡ true
   unfolding routeStops
-  stops-in = index-so w 12 (stops w) (h .stop-in)
+  stops-in = index-so w ROUTE-STOPS (stops w) (h .stop-in)
 
   trips-whole : routeTrips w ≡ true
   unfolding routeTrips
-  trips-whole = rw (index-so w 14 (trips w) (h .trip-in)) (distinct-so w 14 0 (size w 14) (λ i j from. h .trip-once i j))
+  trips-whole = rw (index-so w ROUTE-TRIPS (trips w) (h .trip-in)) (distinct-so w ROUTE-TRIPS 0 (size w ROUTE-TRIPS) (λ i j from. h .trip-once i j))
 
   times : tripTimes w ≡ true
   unfolding tripTimes timeEach
-  times = under-so w 13 (routes w) (timeEach w) (λ r i g u. eq-eqb _ _ (h .trip-long r i g u))
+  times = under-so w ROUTE-TRIP-STARTS (routes w) (timeEach w) (λ r i g u. eq-eqb _ _ (h .trip-long r i g u))
 
   hold : callsHold w ≡ true
   unfolding callsHold
   hold =
-      under-so w 4 (stops w) (call w)
+      under-so w CALL-STARTS (stops w) (call w)
       (λ s j g u.
       call-so w s j
       (record {
@@ -91,13 +94,13 @@ module _ {w : List ℕ} (l : Laid w) (h : Listed w) where
   rise =
       each-so (ascending w) (stops w)
       (λ s g.
-      all-so (later w) (sec w 4 s + 1) (sec w 4 (s + 1)) (λ j from to. lt-ltb _ _ (h .call-rise s j g (omega arith) to)))
+      all-so (later w) (sec w CALL-STARTS s + 1) (sec w CALL-STARTS (s + 1)) (λ j from to. lt-ltb _ _ (h .call-rise s j g (omega arith) to)))
 
   positions : callsAll w ≡ true
   unfolding callsAll calledAlong
   positions =
       each-so (calledAlong w) (routes w)
-      (λ r g. each-so (called w r) (count w 11 r) (λ p k. called-so w r p (h .call-all r p g k)))
+      (λ r g. each-so (called w r) (count w ROUTE-STOP-STARTS r) (λ p k. called-so w r p (h .call-all r p g k)))
 
   calls-whole : stopRoutes w ≡ true
   unfolding stopRoutes
@@ -110,20 +113,20 @@ module _ {w : List ℕ} (l : Laid w) (h : Listed w) where
   transfers-whole : transfers w ≡ true
   unfolding transfers transfer
   transfers-whole =
-      under-so w 7 (stops w) (transfer w)
-      (λ s j g u. rw (eq-eqb (sec w 8 (j * 4)) s (h .transfer-from s j g u)) (lt-ltb _ _ (h .transfer-to s j g u)))
+      under-so w TRANSFER-STARTS (stops w) (transfer w)
+      (λ s j g u. rw (eq-eqb (transferFrom w j) s (h .transfer-from s j g u)) (lt-ltb _ _ (h .transfer-to s j g u)))
 
   walks-whole : walks w ≡ true
   unfolding walks walk
-  walks-whole = each-so (walk w) (rows w 10 2) (λ j g. lt-ltb _ _ (h .walk-to j g))
+  walks-whole = each-so (walk w) (rows w WALKS WALK-WORDS) (λ j g. lt-ltb _ _ (h .walk-to j g))
 
   areas-whole : areasListed w ≡ true
   unfolding areasListed areasOnce areaOnce
   areas-whole =
-      rw (index-so w 18 (stops w) (h .area-in))
+      rw (index-so w AREA-STOPS (stops w) (h .area-in))
       (each-so (areaOnce w) (areas w)
       (λ a g.
-      distinct-so w 18 (sec w 17 a) (sec w 17 (a + 1))
+      distinct-so w AREA-STOPS (sec w AREA-STARTS a) (sec w AREA-STARTS (a + 1))
       (λ i j from k to. h .area-once a i j g (record { from = from; to = omega arith }) k to)))
 
   pub listed-so : listed w ≡ true

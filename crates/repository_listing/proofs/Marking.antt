@@ -12,7 +12,7 @@ use Rattle.base.specs.Choice.{split}
 use Rattle.base.specs.All.{So, so-start, so-on, so-fails, so-passes}
 use Rattle.marks.specs.Marks.{marked, withMark}
 use Rattle.marks.proofs.Stand.{Stand, stand-more}
-use Rattle.repository.specs.Sections.{size, sec}
+use Rattle.repository.specs.Sections.{size, sec, CHILDREN}
 use Rattle.repository.specs.Listed.{among, fresh, distinct}
 use Rattle.repository_listing.specs.Fitting.{Fitting, Unmarked, Marks, markedOn, markedBy}
 use Rattle.repository_calls.proofs.Ranges.{some-none, some-more}
@@ -100,6 +100,6 @@ module _ {w : List ℕ} {k a b : ℕ} where
 pub marks-none : {ws w : List ℕ} {k a b : ℕ} → Marks false ws w k a b
 marks-none = record { stand = λ e. absurd (true≢false (sym e)) }
 
-pub children-marked : {ws w : List ℕ} {n : ℕ} {ok : Bool} → Marks ok ws w 3 0 n → not ok ≡ false → n ≡ size w 3
-    → Stand ws (among w 3 0 (size w 3))
+pub children-marked : {ws w : List ℕ} {n : ℕ} {ok : Bool} → Marks ok ws w CHILDREN 0 n → not ok ≡ false → n ≡ size w CHILDREN
+    → Stand ws (among w CHILDREN 0 (size w CHILDREN))
 children-marked {ok = ok} h t e = rw e at (h .stand (not-false ok t))

@@ -5,7 +5,8 @@ use mathlib.Core.Bool.{Bool, true, false, not, _&&_}
 use mathlib.Core.List.{List}
 use borrow.Author.Tests.{not-true, not-false}
 use Rattle.base.specs.Choice.{and-left, and-right}
-use Rattle.repository.specs.Sections.{size, sec, stops, trips}
+use Rattle.repository.specs.Sections.{size, sec, stops, trips, CHILDREN, ROUTE-STOPS, ROUTE-TRIPS, AREA-STARTS}
+use Rattle.repository.specs.Sections.{AREA-STOPS}
 use Rattle.repository.specs.Listed.{inRange, distinct, childrenName, childrenAll, children, routeStops, routeTrips}
 use Rattle.repository.specs.Listed.{tripTimes, stopList, stations, framed, callsHold, callsRise, callsAll}
 use Rattle.repository.specs.Listed.{stopRoutes, served, transfers, walks, areaOnce, areasOnce, areasListed, listed}
@@ -15,7 +16,7 @@ module _ (w : List ℕ) {a : Bool} (ea : a ≡ childrenName w) where
   unfolding children
   children-misnamed t = rw (← ea, not-true a t)
 
-  module _ {n : ℕ} {b : Bool} (ta : not a ≡ false) (en : n ≡ size w 3) (eb : b ≡ distinct w 3 0 n) where
+  module _ {n : ℕ} {b : Bool} (ta : not a ≡ false) (en : n ≡ size w CHILDREN) (eb : b ≡ distinct w CHILDREN 0 n) where
     pub children-twice : not b ≡ true → false ≡ children w
     unfolding children
     children-twice t = rw (← ea, not-false a ta, ← en, ← eb, not-true b t)
@@ -24,33 +25,33 @@ module _ (w : List ℕ) {a : Bool} (ea : a ≡ childrenName w) where
     unfolding children
     children-rest t e = rw (← ea, not-false a ta, ← en, ← eb, not-false b t) e
 
-module _ (w : List ℕ) {n : ℕ} {a : Bool} (ea : a ≡ inRange w 14 n) (en : n ≡ trips w) where
+module _ (w : List ℕ) {n : ℕ} {a : Bool} (ea : a ≡ inRange w ROUTE-TRIPS n) (en : n ≡ trips w) where
   pub trips-out : not a ≡ true → false ≡ routeTrips w
   unfolding routeTrips
   trips-out t = rw (← en, ← ea, not-true a t)
 
-  pub trips-rest : {m : ℕ} {b : Bool} → not a ≡ false → m ≡ size w 14 → b ≡ distinct w 14 0 m → b ≡ routeTrips w
+  pub trips-rest : {m : ℕ} {b : Bool} → not a ≡ false → m ≡ size w ROUTE-TRIPS → b ≡ distinct w ROUTE-TRIPS 0 m → b ≡ routeTrips w
   unfolding routeTrips
   trips-rest t em eb = rw (← en, ← ea, not-false a t, ← em) eb
 
-pub stops-rest : (w : List ℕ) {n : ℕ} {a : Bool} → a ≡ inRange w 12 n → n ≡ stops w → a ≡ routeStops w
+pub stops-rest : (w : List ℕ) {n : ℕ} {a : Bool} → a ≡ inRange w ROUTE-STOPS n → n ≡ stops w → a ≡ routeStops w
 unfolding routeStops
 stops-rest w ea en = rw (← en) ea
 
-module _ (w : List ℕ) {n : ℕ} {a : Bool} (ea : a ≡ inRange w 18 n) (en : n ≡ stops w) where
+module _ (w : List ℕ) {n : ℕ} {a : Bool} (ea : a ≡ inRange w AREA-STOPS n) (en : n ≡ stops w) where
   pub areas-out : not a ≡ true → false ≡ areasListed w
   unfolding areasListed
   areas-out t = rw (← en, ← ea, not-true a t)
 
-  pub areas-in : not a ≡ false → inRange w 18 (stops w) ≡ true
+  pub areas-in : not a ≡ false → inRange w AREA-STOPS (stops w) ≡ true
   areas-in t = rw (← en, ← ea) (not-false a t)
 
   pub areas-rest : {b : Bool} → not a ≡ false → b ≡ areasOnce w → b ≡ areasListed w
   unfolding areasListed
   areas-rest t eb = rw (← en, ← ea, not-false a t) eb
 
-pub area-rest : (w : List ℕ) (a : ℕ) {from to : ℕ} {b : Bool} → b ≡ distinct w 18 from to → from ≡ sec w 17 a
-    → to ≡ sec w 17 (a + 1) → b ≡ areaOnce w a
+pub area-rest : (w : List ℕ) (a : ℕ) {from to : ℕ} {b : Bool} → b ≡ distinct w AREA-STOPS from to → from ≡ sec w AREA-STARTS a
+    → to ≡ sec w AREA-STARTS (a + 1) → b ≡ areaOnce w a
 unfolding areaOnce
 area-rest w a eb ef et = rw (← ef, ← et) eb
 

@@ -9,39 +9,40 @@ use lib.ListN.{length}
 use borrow.Author.Tests.{ltb-true, lt-ltb, le-ltb, eqb-true, eq-eqb, ne-eqb}
 use Rattle.base.specs.Choice.{and-left, and-right}
 use Rattle.model.specs.Moments.{MAX}
-use Rattle.repository.specs.Sections.{size, sec, stops}
+use Rattle.repository.specs.Sections.{size, sec, stops, STOP-LIST, STATIONS, CHILDREN, ROUTE-STOP-STARTS, ROUTE-TRIPS}
+use Rattle.repository.specs.Sections.{TIME-STARTS, transferFrom, transferTo, walkTo}
 use Rattle.repository.specs.NetOf.{count}
 use Rattle.marks.specs.Marks.{marked}
 use Rattle.marks.proofs.Stand.{Stand}
 use Rattle.repository.specs.Listed.{among, inPlace, station, child, ofStation, timeEach, transfer, walk}
 
-module _ (w : List ℕ) (s : ℕ) {r : ℕ} (e : r ≡ sec w 0 s) where
+module _ (w : List ℕ) (s : ℕ) {r : ℕ} (e : r ≡ sec w STOP-LIST s) where
   pub place-right : r ≡ s → inPlace w s ≡ true
   unfolding inPlace
-  place-right h = eq-eqb (sec w 0 s) s (sym e ∙ h)
+  place-right h = eq-eqb (sec w STOP-LIST s) s (sym e ∙ h)
 
   pub place-wrong : (r ≡ s → ⊥) → inPlace w s ≡ false
   unfolding inPlace
-  place-wrong h = ne-eqb (sec w 0 s) s (λ g. h (e ∙ g))
+  place-wrong h = ne-eqb (sec w STOP-LIST s) s (λ g. h (e ∙ g))
 
-module _ (w : List ℕ) (s : ℕ) {p : ℕ} (e : p ≡ sec w 1 s) where
+module _ (w : List ℕ) (s : ℕ) {p : ℕ} (e : p ≡ sec w STATIONS s) where
   pub station-none : p ≡ MAX → true ≡ station w s
   unfolding station
   station-none h = rw (← e, h)
 
-  pub station-is : {n : ℕ} → (p ≡ MAX → ⊥) → n ≡ size w 0 → ltb p n ≡ station w s
+  pub station-is : {n : ℕ} → (p ≡ MAX → ⊥) → n ≡ size w STOP-LIST → ltb p n ≡ station w s
   unfolding station
   station-is h g = rw (← e, ne-eqb p MAX h, g)
 
-pub child-shown : (w : List ℕ) (p j : ℕ) → child w p j ≡ true → (sec w 3 j < stops w) × (sec w 1 (sec w 3 j) ≡ p)
+pub child-shown : (w : List ℕ) (p j : ℕ) → child w p j ≡ true → (sec w CHILDREN j < stops w) × (sec w STATIONS (sec w CHILDREN j) ≡ p)
 unfolding child
 child-shown w p j e =
-    let a = ltb (sec w 3 j) (stops w) in
-    let b = eqb (sec w 1 (sec w 3 j)) p in
+    let a = ltb (sec w CHILDREN j) (stops w) in
+    let b = eqb (sec w STATIONS (sec w CHILDREN j)) p in
     (ltb-true _ _ (and-left a b e), eqb-true _ _ (and-right a b e))
 
-module _ (w : List ℕ) (p j : ℕ) {s n : ℕ} (e : s ≡ sec w 3 j) (f : n ≡ size w 0) where
-  pub child-names : {q : ℕ} → s < n → q ≡ sec w 1 s → eqb q p ≡ child w p j
+module _ (w : List ℕ) (p j : ℕ) {s n : ℕ} (e : s ≡ sec w CHILDREN j) (f : n ≡ size w STOP-LIST) where
+  pub child-names : {q : ℕ} → s < n → q ≡ sec w STATIONS s → eqb q p ≡ child w p j
   unfolding child
   child-names h g = rw (← e, ← f, lt-ltb s n h, ← g)
 
@@ -49,31 +50,31 @@ module _ (w : List ℕ) (p j : ℕ) {s n : ℕ} (e : s ≡ sec w 3 j) (f : n ≡
   unfolding child
   child-out h = rw (← e, ← f, le-ltb s n h)
 
-module _ (w : List ℕ) (s : ℕ) {p : ℕ} (e : p ≡ sec w 1 s) where
+module _ (w : List ℕ) (s : ℕ) {p : ℕ} (e : p ≡ sec w STATIONS s) where
   pub no-station : p ≡ MAX → true ≡ ofStation w s
   unfolding ofStation
   no-station h = rw (← e, h)
 
-  pub child-marked : {ws : List ℕ} {ok : Bool} → (p ≡ MAX → ⊥) → Stand ws (among w 3 0 (size w 3))
+  pub child-marked : {ws : List ℕ} {ok : Bool} → (p ≡ MAX → ⊥) → Stand ws (among w CHILDREN 0 (size w CHILDREN))
       → stops w ≤ 64 * length ws → s < stops w → ok ≡ marked ws s → ok ≡ ofStation w s
   unfolding ofStation
   child-marked h m l g is = is ∙ m .agree s (omega arith) ∙ rw (← e, ne-eqb p MAX h)
 
-pub times-each : (w : List ℕ) (r i : ℕ) {v m n : ℕ} → v ≡ sec w 14 i → m ≡ count w 15 v → n ≡ count w 11 r
+pub times-each : (w : List ℕ) (r i : ℕ) {v m n : ℕ} → v ≡ sec w ROUTE-TRIPS i → m ≡ count w TIME-STARTS v → n ≡ count w ROUTE-STOP-STARTS r
     → eqb m n ≡ timeEach w r i
 unfolding timeEach
 times-each w r i e f g = rw (← e, f, g)
 
-module _ (w : List ℕ) (s j : ℕ) {u : ℕ} (e : u ≡ sec w 8 (j * 4)) where
+module _ (w : List ℕ) (s j : ℕ) {u : ℕ} (e : u ≡ transferFrom w j) where
   pub transfer-other : (u ≡ s → ⊥) → false ≡ transfer w s j
   unfolding transfer
   transfer-other h = rw (← e, ne-eqb u s h)
 
-  pub transfer-leads : {v n : ℕ} → u ≡ s → v ≡ sec w 8 (j * 4 + 1) → n ≡ size w 0 → ltb v n ≡ transfer w s j
+  pub transfer-leads : {v n : ℕ} → u ≡ s → v ≡ transferTo w j → n ≡ size w STOP-LIST → ltb v n ≡ transfer w s j
   unfolding transfer
   transfer-leads h f g = rw (← e, eq-eqb u s h, ← f, ← g)
 
-module _ (w : List ℕ) (j : ℕ) {r n : ℕ} (e : r ≡ sec w 10 (j * 2)) (f : n ≡ size w 0) where
+module _ (w : List ℕ) (j : ℕ) {r n : ℕ} (e : r ≡ walkTo w j) (f : n ≡ size w STOP-LIST) where
   pub walk-right : r < n → walk w j ≡ true
   unfolding walk
   walk-right h = rw (← e, ← f) (lt-ltb r n h)

@@ -6,12 +6,12 @@ use mathlib.Core.List.{List}
 use lib.ListN.{length}
 use Rattle.marks.specs.Marks.{marked, withMark}
 use Rattle.marks.proofs.Stand.{Stand}
-use Rattle.repository.specs.Sections.{size, sec}
+use Rattle.repository.specs.Sections.{size, sec, SECTIONS}
 use Rattle.repository.specs.Listed.{among}
 
 -- the words a, .., b - 1 of section k exist, and m words of marks have a mark for each
 pub record Fitting (w : List ℕ) (k a b m : ℕ) : Type 0 where
-  pub section : k < 19
+  pub section : k < SECTIONS
   pub order : a ≤ b
   pub within : b ≤ size w k
   pub marks : (i : ℕ) → a ≤ i → i < b → sec w k i < 64 * m

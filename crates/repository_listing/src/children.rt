@@ -3,21 +3,22 @@ ghost use mathlib.Core.Path.{_≡_};
 ghost use Prim.Native.Nat.{_*_, _≤_, _<_};
 ghost use lib.ListN.{length};
 ghost use Rattle.marks.proofs.Stand.{Stand};
-ghost use Rattle.repository.specs.Sections.{size, stops};
+ghost use Rattle.repository.specs.Sections.{size, stops, CHILDREN};
 ghost use Rattle.repository.specs.Laid.{Laid};
 ghost use Rattle.repository.specs.Listed.{among, child, children, childrenName, childrenAll, ofStation};
 use crate::once::marked_once;
+use repository::sections;
 use repository_calls::words::item;
 use repository_calls::words::size_of;
 
 fn child_ok(tables: &[u32], p: u32, j: u32) -> bool
     requires { ⌜ Laid (now tables) ⌝ }
-    requires { ⌜ j < size (now tables) 3 ⌝ }
+    requires { ⌜ j < size (now tables) CHILDREN ⌝ }
     ensures { λ ok. ⌜ ok ≡ child (now (tables .entry)) p j ⌝ }
 {
-    let s = item(tables, 3, j as usize);
-    if s < size_of(tables, 0) {
-        return item(tables, 1, s as usize) == p;
+    let s = item(tables, sections::CHILDREN, j as usize);
+    if s < size_of(tables, sections::STOP_LIST) {
+        return item(tables, sections::STATIONS, s as usize) == p;
     }
     false
 }
@@ -27,11 +28,11 @@ fn children_name_ok(tables: &[u32]) -> bool
     requires { ⌜ Laid (now tables) ⌝ }
     ensures { λ ok. ⌜ ok ≡ childrenName (now (tables .entry)) ⌝ }
 {
-    let n = size_of(tables, 0);
+    let n = size_of(tables, sections::STOP_LIST);
     let mut p: u32 = 0;
     while p < n {
-        let mut j = item(tables, 2, p as usize);
-        let end = item(tables, 2, p as usize + 1);
+        let mut j = item(tables, sections::CHILD_STARTS, p as usize);
+        let end = item(tables, sections::CHILD_STARTS, p as usize + 1);
         while j < end {
             if !child_ok(tables, p, j) {
                 return false;
@@ -45,12 +46,12 @@ fn children_name_ok(tables: &[u32]) -> bool
 
 fn of_station_ok(tables: &[u32], marks: &[u64], s: u32) -> bool
     requires { ⌜ Laid (now tables) ⌝ }
-    requires { ⌜ Stand (now marks) (among (now tables) 3 0 (size (now tables) 3)) ⌝ }
+    requires { ⌜ Stand (now marks) (among (now tables) CHILDREN 0 (size (now tables) CHILDREN)) ⌝ }
     requires { ⌜ stops (now tables) ≤ 64 * length (now marks) ⌝ }
     requires { ⌜ s < stops (now tables) ⌝ }
     ensures { λ ok. ⌜ ok ≡ ofStation (now (tables .entry)) s ⌝ }
 {
-    if item(tables, 1, s as usize) == 0xFFFF_FFFF {
+    if item(tables, sections::STATIONS, s as usize) == 0xFFFF_FFFF {
         return true;
     }
     marks::is_marked(marks, s as usize)
@@ -59,11 +60,11 @@ fn of_station_ok(tables: &[u32], marks: &[u64], s: u32) -> bool
 // Whether every stop that names a station is a child. The children are marked.
 fn children_all_ok(tables: &[u32], marks: &[u64]) -> bool
     requires { ⌜ Laid (now tables) ⌝ }
-    requires { ⌜ Stand (now marks) (among (now tables) 3 0 (size (now tables) 3)) ⌝ }
+    requires { ⌜ Stand (now marks) (among (now tables) CHILDREN 0 (size (now tables) CHILDREN)) ⌝ }
     requires { ⌜ stops (now tables) ≤ 64 * length (now marks) ⌝ }
     ensures { λ ok. ⌜ ok ≡ childrenAll (now (tables .entry)) ⌝ }
 {
-    let n = size_of(tables, 0);
+    let n = size_of(tables, sections::STOP_LIST);
     let mut s: u32 = 0;
     while s < n {
         if !of_station_ok(tables, marks, s) {
@@ -82,9 +83,9 @@ pub fn children_ok(tables: &[u32]) -> bool
     if !children_name_ok(tables) {
         return false;
     }
-    let n = size_of(tables, 3);
+    let n = size_of(tables, sections::CHILDREN);
     let mut marks = [0u64; 64];
-    if !marked_once(tables, 3, 0, n, &mut marks) {
+    if !marked_once(tables, sections::CHILDREN, 0, n, &mut marks) {
         return false;
     }
     children_all_ok(tables, &marks)

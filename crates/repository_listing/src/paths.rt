@@ -1,23 +1,25 @@
 // The rules for footpaths: transfers and walks.
 ghost use mathlib.Core.Path.{_≡_};
 ghost use Prim.Native.Nat.{_<_};
-ghost use Rattle.repository.specs.Sections.{rows};
+ghost use Rattle.repository.specs.Sections.{rows, TRANSFERS, TRANSFER-WORDS};
 ghost use Rattle.repository.specs.Laid.{Laid};
 ghost use Rattle.repository.specs.Listed.{transfer, transfers, walks};
+use repository::sections;
 use repository_calls::words::item;
 use repository_calls::words::rows_of;
 use repository_calls::words::size_of;
 
 fn transfer_ok(tables: &[u32], s: u32, j: u32) -> bool
     requires { ⌜ Laid (now tables) ⌝ }
-    requires { ⌜ j < rows (now tables) 8 4 ⌝ }
+    requires { ⌜ j < rows (now tables) TRANSFERS TRANSFER-WORDS ⌝ }
     ensures { λ ok. ⌜ ok ≡ transfer (now (tables .entry)) s j ⌝ }
 {
-    let at = j as usize * 4;
-    if item(tables, 8, at) != s {
+    let at = j as usize * sections::TRANSFER_WORDS;
+    if item(tables, sections::TRANSFERS, at) != s {
         return false;
     }
-    item(tables, 8, at + 1) < size_of(tables, 0)
+    item(tables, sections::TRANSFERS, at + sections::TRANSFER_TO)
+        < size_of(tables, sections::STOP_LIST)
 }
 
 // Whether each transfer is listed under the stop that it leaves, and leads to a stop.
@@ -25,11 +27,11 @@ pub fn transfers_ok(tables: &[u32]) -> bool
     requires { ⌜ Laid (now tables) ⌝ }
     ensures { λ ok. ⌜ ok ≡ transfers (now (tables .entry)) ⌝ }
 {
-    let n = size_of(tables, 0);
+    let n = size_of(tables, sections::STOP_LIST);
     let mut s: u32 = 0;
     while s < n {
-        let mut j = item(tables, 7, s as usize);
-        let end = item(tables, 7, s as usize + 1);
+        let mut j = item(tables, sections::TRANSFER_STARTS, s as usize);
+        let end = item(tables, sections::TRANSFER_STARTS, s as usize + 1);
         while j < end {
             if !transfer_ok(tables, s, j) {
                 return false;
@@ -46,11 +48,11 @@ pub fn walks_ok(tables: &[u32]) -> bool
     requires { ⌜ Laid (now tables) ⌝ }
     ensures { λ ok. ⌜ ok ≡ walks (now (tables .entry)) ⌝ }
 {
-    let limit = size_of(tables, 0);
-    let n = rows_of(tables, 10, 2);
-    let mut j: u32 = 0;
+    let limit = size_of(tables, sections::STOP_LIST);
+    let n = rows_of(tables, sections::WALKS, sections::WALK_WORDS);
+    let mut j: usize = 0;
     while j < n {
-        if item(tables, 10, j as usize * 2) >= limit {
+        if item(tables, sections::WALKS, j * sections::WALK_WORDS) >= limit {
             return false;
         }
         j += 1;

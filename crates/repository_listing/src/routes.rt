@@ -2,10 +2,11 @@
 ghost use mathlib.Core.Path.{_≡_};
 ghost use mathlib.Core.Bool.{true};
 ghost use Prim.Native.Nat.{_<_};
-ghost use Rattle.repository.specs.Sections.{size, routes};
+ghost use Rattle.repository.specs.Sections.{size, routes, ROUTE-TRIPS};
 ghost use Rattle.repository.specs.Laid.{Laid};
 ghost use Rattle.repository.specs.Listed.{routeStops, routeTrips, timeEach, tripTimes};
 use crate::once::marked_once;
+use repository::sections;
 use repository_calls::words::count_of;
 use repository_calls::words::entries_of;
 use repository_calls::words::in_range;
@@ -17,8 +18,8 @@ pub fn route_stops_ok(tables: &[u32]) -> bool
     requires { ⌜ Laid (now tables) ⌝ }
     ensures { λ ok. ⌜ ok ≡ routeStops (now (tables .entry)) ⌝ }
 {
-    let n = size_of(tables, 0);
-    in_range(tables, 12, n)
+    let n = size_of(tables, sections::STOP_LIST);
+    in_range(tables, sections::ROUTE_STOPS, n)
 }
 
 // Whether each trip stands in exactly one route.
@@ -26,24 +27,24 @@ pub fn route_trips_ok(tables: &[u32]) -> bool
     requires { ⌜ Laid (now tables) ⌝ }
     ensures { λ ok. ⌜ ok ≡ routeTrips (now (tables .entry)) ⌝ }
 {
-    let n = entries_of(tables, 15);
-    if !in_range(tables, 14, n) {
+    let n = entries_of(tables, sections::TIME_STARTS);
+    if !in_range(tables, sections::ROUTE_TRIPS, n) {
         return false;
     }
-    let m = size_of(tables, 14);
+    let m = size_of(tables, sections::ROUTE_TRIPS);
     let mut marks = [0u64; 256];
-    marked_once(tables, 14, 0, m, &mut marks)
+    marked_once(tables, sections::ROUTE_TRIPS, 0, m, &mut marks)
 }
 
 fn time_each_ok(tables: &[u32], r: u32, i: u32) -> bool
     requires { ⌜ Laid (now tables) ⌝ }
     requires { ⌜ routeTrips (now tables) ≡ true ⌝ }
     requires { ⌜ r < routes (now tables) ⌝ }
-    requires { ⌜ i < size (now tables) 14 ⌝ }
+    requires { ⌜ i < size (now tables) ROUTE-TRIPS ⌝ }
     ensures { λ ok. ⌜ ok ≡ timeEach (now (tables .entry)) r i ⌝ }
 {
-    let v = item(tables, 14, i as usize);
-    count_of(tables, 15, v) == count_of(tables, 11, r)
+    let v = item(tables, sections::ROUTE_TRIPS, i as usize);
+    count_of(tables, sections::TIME_STARTS, v) == count_of(tables, sections::ROUTE_STOP_STARTS, r)
 }
 
 // Whether each trip has one stop time per position of its route.
@@ -52,11 +53,11 @@ pub fn trip_times_ok(tables: &[u32]) -> bool
     requires { ⌜ routeTrips (now tables) ≡ true ⌝ }
     ensures { λ ok. ⌜ ok ≡ tripTimes (now (tables .entry)) ⌝ }
 {
-    let n = entries_of(tables, 11);
+    let n = entries_of(tables, sections::ROUTE_STOP_STARTS);
     let mut r: u32 = 0;
     while r < n {
-        let mut i = item(tables, 13, r as usize);
-        let end = item(tables, 13, r as usize + 1);
+        let mut i = item(tables, sections::ROUTE_TRIP_STARTS, r as usize);
+        let end = item(tables, sections::ROUTE_TRIP_STARTS, r as usize + 1);
         while i < end {
             if !time_each_ok(tables, r, i) {
                 return false;

@@ -4,6 +4,7 @@ ghost use Prim.Native.Nat.{_<_};
 ghost use Rattle.repository.specs.Sections.{stops};
 ghost use Rattle.repository.specs.Laid.{Laid};
 ghost use Rattle.repository.specs.Listed.{station, stations, stopList};
+use repository::sections;
 use repository_calls::words::item;
 use repository_calls::words::size_of;
 
@@ -12,10 +13,10 @@ pub fn stop_list_ok(tables: &[u32]) -> bool
     requires { ⌜ Laid (now tables) ⌝ }
     ensures { λ ok. ⌜ ok ≡ stopList (now (tables .entry)) ⌝ }
 {
-    let n = size_of(tables, 0);
+    let n = size_of(tables, sections::STOP_LIST);
     let mut s: u32 = 0;
     while s < n {
-        if item(tables, 0, s as usize) != s {
+        if item(tables, sections::STOP_LIST, s as usize) != s {
             return false;
         }
         s += 1;
@@ -28,11 +29,11 @@ fn station_ok(tables: &[u32], s: u32) -> bool
     requires { ⌜ s < stops (now tables) ⌝ }
     ensures { λ ok. ⌜ ok ≡ station (now (tables .entry)) s ⌝ }
 {
-    let p = item(tables, 1, s as usize);
+    let p = item(tables, sections::STATIONS, s as usize);
     if p == 0xFFFF_FFFF {
         return true;
     }
-    p < size_of(tables, 0)
+    p < size_of(tables, sections::STOP_LIST)
 }
 
 // Whether every stop has a station in range, or none.
@@ -40,7 +41,7 @@ pub fn stations_ok(tables: &[u32]) -> bool
     requires { ⌜ Laid (now tables) ⌝ }
     ensures { λ ok. ⌜ ok ≡ stations (now (tables .entry)) ⌝ }
 {
-    let n = size_of(tables, 0);
+    let n = size_of(tables, sections::STOP_LIST);
     let mut s: u32 = 0;
     while s < n {
         if !station_ok(tables, s) {

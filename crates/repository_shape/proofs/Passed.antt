@@ -6,7 +6,11 @@ use mathlib.Core.List.{List}
 use lib.Dec.{leb}
 use lib.ListN.{length}
 use borrow.Author.Tests.{le-leb, eq-eqb}
-use Rattle.repository.specs.Sections.{start, size, sec, stops, routes, trips, areas, rows}
+use Rattle.repository.specs.Sections.{start, size, sec, stops, routes, trips, areas, rows, STOP-LIST, STATIONS}
+use Rattle.repository.specs.Sections.{CHILD-STARTS, CHILDREN, CALL-STARTS, CALLS, SERVED, TRANSFER-STARTS, TRANSFERS}
+use Rattle.repository.specs.Sections.{WALK-STARTS, WALKS, ROUTE-STOP-STARTS, ROUTE-STOPS, ROUTE-TRIP-STARTS}
+use Rattle.repository.specs.Sections.{ROUTE-TRIPS, TIME-STARTS, TIMES, AREA-STARTS, AREA-STOPS, SECTIONS, HEADER}
+use Rattle.repository.specs.Sections.{CALL-WORDS, TRANSFER-WORDS, WALK-WORDS, TIME-WORDS}
 use Rattle.repository.specs.NetOf.{count}
 use Rattle.repository.specs.Laid.{headed, sized, limited, starting, started, positioned, laid, Starts, Laid}
 use Rattle.repository_shape.specs.Shape.{Headed, routeFits}
@@ -27,31 +31,31 @@ module _ {w : List ℕ} (h : Laid w) where
   unfolding headed
   headed-so =
       rw (
-        le-leb 20 (length w) (h .head),
-        eq-eqb (start w 0) 20 (h .first),
-        eq-eqb (start w 19) (length w) (h .last),
-        all-so (λ k. leb (start w k) (start w (k + 1))) 0 19 (λ k a b. le-leb _ _ (h .rise k b)),
+        le-leb HEADER (length w) (h .head),
+        eq-eqb (start w STOP-LIST) HEADER (h .first),
+        eq-eqb (start w SECTIONS) (length w) (h .last),
+        all-so (λ k. leb (start w k) (start w (k + 1))) 0 SECTIONS (λ k a b. le-leb _ _ (h .rise k b)),
       )
 
   sized-so : sized w ≡ true
   unfolding sized
   sized-so =
       rw (
-        eq-eqb (size w 1) (stops w) (h .size-1),
-        eq-eqb (size w 2) (stops w + 1) (h .size-2),
-        eq-eqb (size w 4) (stops w + 1) (h .size-4),
-        eq-eqb (size w 6) (stops w) (h .size-6),
-        eq-eqb (size w 7) (stops w + 1) (h .size-7),
-        eq-eqb (size w 9) (stops w + 1) (h .size-9),
-        le-leb 1 (size w 11) (h .size-11),
-        eq-eqb (size w 13) (size w 11) (h .size-13),
-        le-leb 1 (size w 15) (h .size-15),
-        eq-eqb (size w 14) (trips w) (h .size-14),
-        le-leb 1 (size w 17) (h .size-17),
-        eq-eqb (size w 5 % 3) 0 (h .calls),
-        eq-eqb (size w 8 % 4) 0 (h .transfers),
-        eq-eqb (size w 10 % 2) 0 (h .walks),
-        eq-eqb (size w 16 % 2) 0 (h .times),
+        eq-eqb (size w STATIONS) (stops w) (h .stations-size),
+        eq-eqb (size w CHILD-STARTS) (stops w + 1) (h .child-starts-size),
+        eq-eqb (size w CALL-STARTS) (stops w + 1) (h .call-starts-size),
+        eq-eqb (size w SERVED) (stops w) (h .served-size),
+        eq-eqb (size w TRANSFER-STARTS) (stops w + 1) (h .transfer-starts-size),
+        eq-eqb (size w WALK-STARTS) (stops w + 1) (h .walk-starts-size),
+        le-leb 1 (size w ROUTE-STOP-STARTS) (h .route-stop-starts-size),
+        eq-eqb (size w ROUTE-TRIP-STARTS) (size w ROUTE-STOP-STARTS) (h .route-trip-starts-size),
+        le-leb 1 (size w TIME-STARTS) (h .time-starts-size),
+        eq-eqb (size w ROUTE-TRIPS) (trips w) (h .route-trips-size),
+        le-leb 1 (size w AREA-STARTS) (h .area-starts-size),
+        eq-eqb (size w CALLS % CALL-WORDS) 0 (h .calls),
+        eq-eqb (size w TRANSFERS % TRANSFER-WORDS) 0 (h .transfers),
+        eq-eqb (size w WALKS % WALK-WORDS) 0 (h .walks),
+        eq-eqb (size w TIMES % TIME-WORDS) 0 (h .times),
       )
 
   limited-so : limited w ≡ true
@@ -61,32 +65,32 @@ module _ {w : List ℕ} (h : Laid w) where
         le-leb (stops w) 4_096 (h .stops-limit),
         le-leb (routes w) 1_024 (h .routes-limit),
         le-leb (trips w) 16_384 (h .trips-limit),
-        le-leb (rows w 16 2) 262_144 (h .times-limit),
-        le-leb (rows w 8 4) 16_384 (h .transfers-limit),
-        le-leb (rows w 10 2) 32_768 (h .walks-limit),
+        le-leb (rows w TIMES TIME-WORDS) 262_144 (h .times-limit),
+        le-leb (rows w TRANSFERS TRANSFER-WORDS) 16_384 (h .transfers-limit),
+        le-leb (rows w WALKS WALK-WORDS) 32_768 (h .walks-limit),
         le-leb (areas w) 1_024 (h .areas-limit),
-        le-leb (size w 18) 16_384 (h .entries-limit),
+        le-leb (size w AREA-STOPS) 16_384 (h .entries-limit),
       )
 
   started-so : started w ≡ true
   unfolding started
   started-so =
       rw (
-        starting-so w 2 (stops w) (size w 3) (h .child-starts),
-        starting-so w 4 (stops w) (rows w 5 3) (h .call-starts),
-        starting-so w 7 (stops w) (rows w 8 4) (h .transfer-starts),
-        starting-so w 9 (stops w) (rows w 10 2) (h .walk-starts),
-        starting-so w 11 (routes w) (size w 12) (h .stop-starts),
-        starting-so w 13 (routes w) (size w 14) (h .trip-starts),
-        starting-so w 15 (trips w) (rows w 16 2) (h .time-starts),
-        starting-so w 17 (areas w) (size w 18) (h .area-starts),
+        starting-so w CHILD-STARTS (stops w) (size w CHILDREN) (h .child-starts),
+        starting-so w CALL-STARTS (stops w) (rows w CALLS CALL-WORDS) (h .call-starts),
+        starting-so w TRANSFER-STARTS (stops w) (rows w TRANSFERS TRANSFER-WORDS) (h .transfer-starts),
+        starting-so w WALK-STARTS (stops w) (rows w WALKS WALK-WORDS) (h .walk-starts),
+        starting-so w ROUTE-STOP-STARTS (routes w) (size w ROUTE-STOPS) (h .route-stop-starts),
+        starting-so w ROUTE-TRIP-STARTS (routes w) (size w ROUTE-TRIPS) (h .route-trip-starts),
+        starting-so w TIME-STARTS (trips w) (rows w TIMES TIME-WORDS) (h .time-starts),
+        starting-so w AREA-STARTS (areas w) (size w AREA-STOPS) (h .area-starts),
       )
 
   positioned-so : positioned w ≡ true
   unfolding positioned routeFits
   positioned-so =
       all-so (routeFits w) 0 (routes w)
-      (λ r a b. rw (le-leb 1 (count w 11 r) (h .some-stop r b), le-leb (count w 11 r) 128 (h .positions-limit r b)))
+      (λ r a b. rw (le-leb 1 (count w ROUTE-STOP-STARTS r) (h .some-stop r b), le-leb (count w ROUTE-STOP-STARTS r) 128 (h .positions-limit r b)))
 
   pub laid-so : laid w ≡ true
   unfolding laid

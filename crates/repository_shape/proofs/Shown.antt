@@ -8,7 +8,11 @@ use lib.Dec.{leb, eqb}
 use lib.ListN.{length, getD}
 use borrow.Author.Tests.{leb-true, eqb-true}
 use Rattle.base.specs.All.{all, all-at}
-use Rattle.repository.specs.Sections.{start, size, sec, stops, routes, trips, areas, rows}
+use Rattle.repository.specs.Sections.{start, size, sec, stops, routes, trips, areas, rows, STOP-LIST, STATIONS}
+use Rattle.repository.specs.Sections.{CHILD-STARTS, CHILDREN, CALL-STARTS, CALLS, SERVED, TRANSFER-STARTS, TRANSFERS}
+use Rattle.repository.specs.Sections.{WALK-STARTS, WALKS, ROUTE-STOP-STARTS, ROUTE-STOPS, ROUTE-TRIP-STARTS}
+use Rattle.repository.specs.Sections.{ROUTE-TRIPS, TIME-STARTS, TIMES, AREA-STARTS, AREA-STOPS, SECTIONS, HEADER}
+use Rattle.repository.specs.Sections.{CALL-WORDS, TRANSFER-WORDS, WALK-WORDS, TIME-WORDS}
 use Rattle.repository.specs.NetOf.{count}
 use Rattle.repository.specs.Laid.{headed, sized, limited, starting, started, positioned, laid, Starts, Laid}
 use Rattle.repository_shape.specs.Shape.{Headed, Roomy, routeFits}
@@ -18,26 +22,26 @@ use Rattle.repository_shape.proofs.Joined.{joined-at}
 module _ (w : List ℕ) where
   abbrev headTests : List Bool
   headTests =
-      leb 20 (length w) ∷ eqb (start w 0) 20 ∷ eqb (start w 19) (length w)
-      ∷ all (λ k. leb (start w k) (start w (k + 1))) 0 19 ∷ []
+      leb HEADER (length w) ∷ eqb (start w STOP-LIST) HEADER ∷ eqb (start w SECTIONS) (length w)
+      ∷ all (λ k. leb (start w k) (start w (k + 1))) 0 SECTIONS ∷ []
 
   abbrev sizeTests : List Bool
   sizeTests =
-      eqb (size w 1) (stops w) ∷ eqb (size w 2) (stops w + 1) ∷ eqb (size w 4) (stops w + 1) ∷ eqb (size w 6) (stops w)
-      ∷ eqb (size w 7) (stops w + 1) ∷ eqb (size w 9) (stops w + 1) ∷ leb 1 (size w 11) ∷ eqb (size w 13) (size w 11)
-      ∷ leb 1 (size w 15) ∷ eqb (size w 14) (trips w) ∷ leb 1 (size w 17)
-      ∷ eqb (size w 5 % 3) 0 ∷ eqb (size w 8 % 4) 0 ∷ eqb (size w 10 % 2) 0 ∷ eqb (size w 16 % 2) 0 ∷ []
+      eqb (size w STATIONS) (stops w) ∷ eqb (size w CHILD-STARTS) (stops w + 1) ∷ eqb (size w CALL-STARTS) (stops w + 1) ∷ eqb (size w SERVED) (stops w)
+      ∷ eqb (size w TRANSFER-STARTS) (stops w + 1) ∷ eqb (size w WALK-STARTS) (stops w + 1) ∷ leb 1 (size w ROUTE-STOP-STARTS) ∷ eqb (size w ROUTE-TRIP-STARTS) (size w ROUTE-STOP-STARTS)
+      ∷ leb 1 (size w TIME-STARTS) ∷ eqb (size w ROUTE-TRIPS) (trips w) ∷ leb 1 (size w AREA-STARTS)
+      ∷ eqb (size w CALLS % CALL-WORDS) 0 ∷ eqb (size w TRANSFERS % TRANSFER-WORDS) 0 ∷ eqb (size w WALKS % WALK-WORDS) 0 ∷ eqb (size w TIMES % TIME-WORDS) 0 ∷ []
 
   abbrev limitTests : List Bool
   limitTests =
-      leb (stops w) 4_096 ∷ leb (routes w) 1_024 ∷ leb (trips w) 16_384 ∷ leb (rows w 16 2) 262_144
-      ∷ leb (rows w 8 4) 16_384 ∷ leb (rows w 10 2) 32_768 ∷ leb (areas w) 1_024 ∷ leb (size w 18) 16_384 ∷ []
+      leb (stops w) 4_096 ∷ leb (routes w) 1_024 ∷ leb (trips w) 16_384 ∷ leb (rows w TIMES TIME-WORDS) 262_144
+      ∷ leb (rows w TRANSFERS TRANSFER-WORDS) 16_384 ∷ leb (rows w WALKS WALK-WORDS) 32_768 ∷ leb (areas w) 1_024 ∷ leb (size w AREA-STOPS) 16_384 ∷ []
 
   abbrev startTests : List Bool
   startTests =
-      starting w 2 (stops w) (size w 3) ∷ starting w 4 (stops w) (rows w 5 3) ∷ starting w 7 (stops w) (rows w 8 4)
-      ∷ starting w 9 (stops w) (rows w 10 2) ∷ starting w 11 (routes w) (size w 12) ∷ starting w 13 (routes w) (size w 14)
-      ∷ starting w 15 (trips w) (rows w 16 2) ∷ starting w 17 (areas w) (size w 18) ∷ []
+      starting w CHILD-STARTS (stops w) (size w CHILDREN) ∷ starting w CALL-STARTS (stops w) (rows w CALLS CALL-WORDS) ∷ starting w TRANSFER-STARTS (stops w) (rows w TRANSFERS TRANSFER-WORDS)
+      ∷ starting w WALK-STARTS (stops w) (rows w WALKS WALK-WORDS) ∷ starting w ROUTE-STOP-STARTS (routes w) (size w ROUTE-STOPS) ∷ starting w ROUTE-TRIP-STARTS (routes w) (size w ROUTE-TRIPS)
+      ∷ starting w TIME-STARTS (trips w) (rows w TIMES TIME-WORDS) ∷ starting w AREA-STARTS (areas w) (size w AREA-STOPS) ∷ []
 
   -- each part's tests pass where the part does
   headed-at : headed w ≡ true → (i : ℕ) → getD headTests i true ≡ true
@@ -60,15 +64,15 @@ module _ (w : List ℕ) where
   unfolding laid
   laid-at e = joined-at true (headed w ∷ sized w ∷ limited w ∷ started w ∷ positioned w ∷ []) e
 
-  rising-at : headed w ≡ true → (k : ℕ) → k < 19 → start w k ≤ start w (k + 1)
-  rising-at e k g = leb-true _ _ (all-at (λ k. leb (start w k) (start w (k + 1))) 0 19 (headed-at e 3) k (omega arith) g)
+  rising-at : headed w ≡ true → (k : ℕ) → k < SECTIONS → start w k ≤ start w (k + 1)
+  rising-at e k g = leb-true _ _ (all-at (λ k. leb (start w k) (start w (k + 1))) 0 SECTIONS (headed-at e 3) k (omega arith) g)
 
   positioned-at : positioned w ≡ true → (r : ℕ) → r < routes w → (i : ℕ)
-      → getD (leb 1 (count w 11 r) ∷ leb (count w 11 r) 128 ∷ []) i true ≡ true
+      → getD (leb 1 (count w ROUTE-STOP-STARTS r) ∷ leb (count w ROUTE-STOP-STARTS r) 128 ∷ []) i true ≡ true
   unfolding positioned routeFits
   positioned-at e r g =
       let fits = all-at (routeFits w) 0 (routes w) e r (omega arith) g in
-      joined-at true (leb 1 (count w 11 r) ∷ leb (count w 11 r) 128 ∷ []) fits
+      joined-at true (leb 1 (count w ROUTE-STOP-STARTS r) ∷ leb (count w ROUTE-STOP-STARTS r) 128 ∷ []) fits
 
   -- a starts section
   module _ (k n m : ℕ) where
@@ -96,14 +100,14 @@ headed-known w e t =
 pub sized-known : (w : List ℕ) {b : Bool} → b ≡ sized w → b ≡ true → Roomy w
 sized-known w e t =
     let at = sized-at w (sym e ∙ t) in
-    let z2 : size w 2 ≡ stops w + 1 = eqb-true _ _ (at 1) in
-    let z4 : size w 4 ≡ stops w + 1 = eqb-true _ _ (at 2) in
-    let z7 : size w 7 ≡ stops w + 1 = eqb-true _ _ (at 4) in
-    let z9 : size w 9 ≡ stops w + 1 = eqb-true _ _ (at 5) in
-    let z11 : 1 ≤ size w 11 = leb-true _ _ (at 6) in
-    let z13 : size w 13 ≡ size w 11 = eqb-true _ _ (at 7) in
-    let z15 : 1 ≤ size w 15 = leb-true _ _ (at 8) in
-    let z17 : 1 ≤ size w 17 = leb-true _ _ (at 10) in
+    let child-size : size w CHILD-STARTS ≡ stops w + 1 = eqb-true _ _ (at 1) in
+    let call-size : size w CALL-STARTS ≡ stops w + 1 = eqb-true _ _ (at 2) in
+    let transfer-size : size w TRANSFER-STARTS ≡ stops w + 1 = eqb-true _ _ (at 4) in
+    let walk-size : size w WALK-STARTS ≡ stops w + 1 = eqb-true _ _ (at 5) in
+    let route-size : 1 ≤ size w ROUTE-STOP-STARTS = leb-true _ _ (at 6) in
+    let trip-size : size w ROUTE-TRIP-STARTS ≡ size w ROUTE-STOP-STARTS = eqb-true _ _ (at 7) in
+    let time-size : 1 ≤ size w TIME-STARTS = leb-true _ _ (at 8) in
+    let area-size : 1 ≤ size w AREA-STARTS = leb-true _ _ (at 10) in
     record {
       child-room = omega arith;
       call-room = omega arith;
@@ -127,17 +131,17 @@ laid-shown {w} e =
       first = eqb-true _ _ (head 1);
       last = eqb-true _ _ (head 2);
       rise = rising-at w (parts 0);
-      size-1 = eqb-true _ _ (size 0);
-      size-2 = eqb-true _ _ (size 1);
-      size-4 = eqb-true _ _ (size 2);
-      size-6 = eqb-true _ _ (size 3);
-      size-7 = eqb-true _ _ (size 4);
-      size-9 = eqb-true _ _ (size 5);
-      size-11 = leb-true _ _ (size 6);
-      size-13 = eqb-true _ _ (size 7);
-      size-15 = leb-true _ _ (size 8);
-      size-14 = eqb-true _ _ (size 9);
-      size-17 = leb-true _ _ (size 10);
+      stations-size = eqb-true _ _ (size 0);
+      child-starts-size = eqb-true _ _ (size 1);
+      call-starts-size = eqb-true _ _ (size 2);
+      served-size = eqb-true _ _ (size 3);
+      transfer-starts-size = eqb-true _ _ (size 4);
+      walk-starts-size = eqb-true _ _ (size 5);
+      route-stop-starts-size = leb-true _ _ (size 6);
+      route-trip-starts-size = eqb-true _ _ (size 7);
+      time-starts-size = leb-true _ _ (size 8);
+      route-trips-size = eqb-true _ _ (size 9);
+      area-starts-size = leb-true _ _ (size 10);
       calls = eqb-true _ _ (size 11);
       transfers = eqb-true _ _ (size 12);
       walks = eqb-true _ _ (size 13);
@@ -154,8 +158,8 @@ laid-shown {w} e =
       call-starts = starting-shown w _ _ _ (starts 1);
       transfer-starts = starting-shown w _ _ _ (starts 2);
       walk-starts = starting-shown w _ _ _ (starts 3);
-      stop-starts = starting-shown w _ _ _ (starts 4);
-      trip-starts = starting-shown w _ _ _ (starts 5);
+      route-stop-starts = starting-shown w _ _ _ (starts 4);
+      route-trip-starts = starting-shown w _ _ _ (starts 5);
       time-starts = starting-shown w _ _ _ (starts 6);
       area-starts = starting-shown w _ _ _ (starts 7);
       some-stop = λ r g. leb-true _ _ (positioned-at w (parts 4) r g 0);

@@ -1,16 +1,20 @@
 -- What the answers of the tests come to.
-use Prim.Native.Nat.{ℕ, _+_, _-_, _/_, _≤_, _<_}
+use Prim.Native.Nat.{ℕ, _+_, _-_, _/_, _%_, _≤_, _<_}
 use mathlib.Core.Path.{_≡_, sym, ap, _∙_}
 use mathlib.Core.Bool.{Bool, true, false, _&&_}
 use mathlib.Core.List.{List}
 use native.Mathlib.Nat.{div-one}
-use lib.Dec.{eqb}
+use lib.Dec.{leb, eqb}
 use lib.ListN.{length, getD}
 use borrow.Author.Tests.{le-leb, lt-leb}
 use Rattle.base.specs.All.{every, all}
-use Rattle.repository.specs.Sections.{start, size, sec}
+use Rattle.repository.specs.Sections.{start, size, sec, STOP-LIST, STATIONS, CHILD-STARTS, CHILDREN, CALL-STARTS}
+use Rattle.repository.specs.Sections.{CALLS, SERVED, TRANSFER-STARTS, TRANSFERS, WALK-STARTS, WALKS, ROUTE-STOP-STARTS}
+use Rattle.repository.specs.Sections.{ROUTE-STOPS, ROUTE-TRIP-STARTS, ROUTE-TRIPS, TIME-STARTS, TIMES, AREA-STARTS}
+use Rattle.repository.specs.Sections.{AREA-STOPS, SECTIONS, HEADER, CALL-WORDS, TRANSFER-WORDS, WALK-WORDS, TIME-WORDS}
+use Rattle.repository.specs.NetOf.{count}
 use Rattle.repository.specs.Laid.{headed, sized, limited, starting, started, positioned, laid}
-use Rattle.repository_shape.specs.Shape.{noFall, routeFits}
+use Rattle.repository_shape.specs.Shape.{noFall, routeFits, stopSized}
 
 module _ (w : List ℕ) (o i : ℕ) where
   pub no-fall : getD w (o + i) 0 ≤ getD w (o + (i + 1)) 0 → true ≡ noFall w o i
@@ -21,19 +25,45 @@ module _ (w : List ℕ) (o i : ℕ) where
   unfolding noFall
   a-fall g = sym (lt-leb _ _ g)
 
-pub positioned-is : (w : List ℕ) {n : ℕ} {b : Bool} → n ≡ size w 11 - 1 → b ≡ all (routeFits w) 0 n → b ≡ positioned w
+pub positioned-is : (w : List ℕ) {n : ℕ} {b : Bool} → n ≡ size w ROUTE-STOP-STARTS - 1 → b ≡ all (routeFits w) 0 n → b ≡ positioned w
 unfolding positioned routeFits
 positioned-is w e t = t ∙ ap (all (routeFits w) 0) e
 
 -- the header
-pub headed-short : (w : List ℕ) → length w < 20 → false ≡ headed w
+pub headed-short : (w : List ℕ) → length w < HEADER → false ≡ headed w
 unfolding headed
-headed-short w g = rw (lt-leb 20 (length w) g)
+headed-short w g = rw (lt-leb HEADER (length w) g)
 
-pub headed-is : (w : List ℕ) {a b : ℕ} {t : Bool} → 20 ≤ length w → a ≡ start w 0 → b ≡ start w 19
-    → t ≡ all (noFall w 0) 0 19 → eqb a 20 && eqb b (length w) && t ≡ headed w
+pub headed-is : (w : List ℕ) {a b : ℕ} {t : Bool} → HEADER ≤ length w → a ≡ start w STOP-LIST → b ≡ start w SECTIONS
+    → t ≡ all (noFall w 0) 0 SECTIONS → eqb a HEADER && eqb b (length w) && t ≡ headed w
 unfolding headed noFall all every
-headed-is w g ea eb et = rw (le-leb 20 (length w) g, ea, eb, et)
+headed-is w g ea eb et = rw (le-leb HEADER (length w) g, ea, eb, et)
+
+-- the sizes and the limits, by the sizes that were read
+pub stop-sized-is : (w : List ℕ) {s stations children calls served transfers walks : ℕ} → s ≡ size w STOP-LIST
+    → stations ≡ size w STATIONS → children ≡ size w CHILD-STARTS → calls ≡ size w CALL-STARTS → served ≡ size w SERVED → transfers ≡ size w TRANSFER-STARTS → walks ≡ size w WALK-STARTS
+    → eqb stations s && eqb children (s + 1) && eqb calls (s + 1) && eqb served s && eqb transfers (s + 1) && eqb walks (s + 1) ≡ stopSized w
+unfolding stopSized
+stop-sized-is w es est ech eca ese etr ewa = rw (est, ech, eca, ese, etr, ewa, es)
+
+pub sized-is : (w : List ℕ) {b : Bool} {r trip-starts time-starts route-trips t area-starts calls transfers walks times : ℕ} → b ≡ stopSized w → r ≡ size w ROUTE-STOP-STARTS
+    → trip-starts ≡ size w ROUTE-TRIP-STARTS → time-starts ≡ size w TIME-STARTS → route-trips ≡ size w ROUTE-TRIPS → t ≡ size w TIME-STARTS - 1 → area-starts ≡ size w AREA-STARTS
+    → calls ≡ size w CALLS → transfers ≡ size w TRANSFERS → walks ≡ size w WALKS → times ≡ size w TIMES
+    → b && leb 1 r && eqb trip-starts r && leb 1 time-starts && eqb route-trips t && leb 1 area-starts
+    && eqb (calls % CALL-WORDS) 0 && eqb (transfers % TRANSFER-WORDS) 0 && eqb (walks % WALK-WORDS) 0 && eqb (times % TIME-WORDS) 0 ≡ sized w
+unfolding sized stopSized
+sized-is w eb er e13 e15 e14 et e17 e5 e8 e10 e16 = rw (eb, er, e13, e15, e14, et, e17, e5, e8, e10, e16)
+
+pub limited-is : (w : List ℕ) {s r t times transfers walks a named : ℕ} → s ≡ size w STOP-LIST → r ≡ size w ROUTE-STOP-STARTS - 1 → t ≡ size w TIME-STARTS - 1
+    → times ≡ size w TIMES → transfers ≡ size w TRANSFERS → walks ≡ size w WALKS → a ≡ size w AREA-STARTS - 1 → named ≡ size w AREA-STOPS
+    → leb s 4_096 && leb r 1_024 && leb t 16_384 && leb (times / TIME-WORDS) 262_144 && leb (transfers / TRANSFER-WORDS) 16_384
+    && leb (walks / WALK-WORDS) 32_768 && leb a 1_024 && leb named 16_384 ≡ limited w
+unfolding limited
+limited-is w es er et e16 e8 e10 ea e18 = rw (es, er, et, e16, e8, e10, ea, e18)
+
+pub route-fits-is : (w : List ℕ) (r : ℕ) {n : ℕ} → n ≡ count w ROUTE-STOP-STARTS r → leb 1 n && leb n 128 ≡ routeFits w r
+unfolding routeFits
+route-fits-is w r e = rw e
 
 -- a starts section
 pub starting-is : (w : List ℕ) (k n wide : ℕ) {a b z o : ℕ} {t : Bool} → a ≡ sec w k 0 → b ≡ sec w k n
@@ -42,12 +72,12 @@ pub starting-is : (w : List ℕ) (k n wide : ℕ) {a b z o : ℕ} {t : Bool} →
 unfolding starting sec noFall
 starting-is w k n wide ea eb ez eo et = rw (ea, eb, ez, et, eo)
 
-pub started-is : (w : List ℕ) {s r t a : ℕ} {b2 b4 b7 b9 b11 b13 b15 b17 : Bool} → s ≡ size w 0
-    → r ≡ size w 11 - 1 → t ≡ size w 15 - 1 → a ≡ size w 17 - 1
-    → b2 ≡ starting w 2 s (size w 3 / 1) → b4 ≡ starting w 4 s (size w 5 / 3)
-    → b7 ≡ starting w 7 s (size w 8 / 4) → b9 ≡ starting w 9 s (size w 10 / 2)
-    → b11 ≡ starting w 11 r (size w 12 / 1) → b13 ≡ starting w 13 r (size w 14 / 1)
-    → b15 ≡ starting w 15 t (size w 16 / 2) → b17 ≡ starting w 17 a (size w 18 / 1)
+pub started-is : (w : List ℕ) {s r t a : ℕ} {b2 b4 b7 b9 b11 b13 b15 b17 : Bool} → s ≡ size w STOP-LIST
+    → r ≡ size w ROUTE-STOP-STARTS - 1 → t ≡ size w TIME-STARTS - 1 → a ≡ size w AREA-STARTS - 1
+    → b2 ≡ starting w CHILD-STARTS s (size w CHILDREN / 1) → b4 ≡ starting w CALL-STARTS s (size w CALLS / CALL-WORDS)
+    → b7 ≡ starting w TRANSFER-STARTS s (size w TRANSFERS / TRANSFER-WORDS) → b9 ≡ starting w WALK-STARTS s (size w WALKS / WALK-WORDS)
+    → b11 ≡ starting w ROUTE-STOP-STARTS r (size w ROUTE-STOPS / 1) → b13 ≡ starting w ROUTE-TRIP-STARTS r (size w ROUTE-TRIPS / 1)
+    → b15 ≡ starting w TIME-STARTS t (size w TIMES / TIME-WORDS) → b17 ≡ starting w AREA-STARTS a (size w AREA-STOPS / 1)
     → b2 && b4 && b7 && b9 && b11 && b13 && b15 && b17 ≡ started w
 unfolding started
 started-is w es er et ea e2 e4 e7 e9 e11 e13 e15 e17 =
@@ -64,10 +94,10 @@ started-is w es er et ea e2 e4 e7 e9 e11 e13 e15 e17 =
       er,
       et,
       ea,
-      div-one (size w 3),
-      div-one (size w 12),
-      div-one (size w 14),
-      div-one (size w 18),
+      div-one (size w CHILDREN),
+      div-one (size w ROUTE-STOPS),
+      div-one (size w ROUTE-TRIPS),
+      div-one (size w AREA-STOPS),
     )
 
 -- the whole

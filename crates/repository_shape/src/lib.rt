@@ -5,15 +5,16 @@ ghost use mathlib.Core.Path.{_≡_};
 ghost use Prim.Native.Nat.{_+_, _-_, _/_, _≤_, _<_};
 ghost use lib.ListN.{length};
 ghost use Rattle.base.specs.All.{all};
-ghost use Rattle.repository.specs.Sections.{size};
+ghost use Rattle.repository.specs.Sections.{size, ROUTE-STOP-STARTS, SECTIONS};
 ghost use Rattle.repository.specs.NetOf.{count};
 ghost use Rattle.repository.specs.Laid.{headed, sized, limited, starting, started, positioned, laid};
 ghost use Rattle.repository_shape.specs.Shape.{Headed, Roomy, noFall, routeFits, stopSized};
+use repository::sections;
 
 // How many words section k has.
 pub fn size_of(tables: &[u32], k: usize) -> usize
     requires { ⌜ Headed (now tables) ⌝ }
-    requires { ⌜ k < 19 ⌝ }
+    requires { ⌜ k < SECTIONS ⌝ }
     ensures { λ r. ⌜ r ≡ size (now (tables .entry)) k ⌝ }
     ensures { λ r. ⌜ r ≤ length (now (tables .entry)) ⌝ }
 {
@@ -25,7 +26,7 @@ pub fn size_of(tables: &[u32], k: usize) -> usize
 // How many entries the starts section k has: its last word only ends the list.
 pub fn entries(tables: &[u32], k: usize) -> usize
     requires { ⌜ Headed (now tables) ⌝ }
-    requires { ⌜ k < 19 ⌝ }
+    requires { ⌜ k < SECTIONS ⌝ }
     ensures { λ r. ⌜ r ≡ size (now (tables .entry)) k - 1 ⌝ }
     ensures { λ r. ⌜ r ≤ length (now (tables .entry)) ⌝ }
 {
@@ -56,12 +57,14 @@ fn never_falls(tables: &[u32], o: usize, n: usize) -> bool
 fn header_ok(tables: &[u32]) -> bool
     ensures { λ r. ⌜ r ≡ headed (now (tables .entry)) ⌝ }
 {
-    if tables.len() < 20 {
+    if tables.len() < sections::HEADER {
         return false;
     }
-    let first = repository::head(tables, 0);
-    let last = repository::head(tables, 19) as usize;
-    (first == 20) & (last == tables.len()) & never_falls(tables, 0, 19)
+    let first = repository::head(tables, sections::STOP_LIST) as usize;
+    let last = repository::head(tables, sections::SECTIONS) as usize;
+    (first == sections::HEADER)
+        & (last == tables.len())
+        & never_falls(tables, 0, sections::SECTIONS)
 }
 
 // Whether each section that has a word or an entry for each stop has as many.
@@ -69,13 +72,13 @@ fn stop_sizes_ok(tables: &[u32]) -> bool
     requires { ⌜ Headed (now tables) ⌝ }
     ensures { λ r. ⌜ r ≡ stopSized (now (tables .entry)) ⌝ }
 {
-    let s = size_of(tables, 0);
-    (size_of(tables, 1) == s)
-        & (size_of(tables, 2) == s + 1)
-        & (size_of(tables, 4) == s + 1)
-        & (size_of(tables, 6) == s)
-        & (size_of(tables, 7) == s + 1)
-        & (size_of(tables, 9) == s + 1)
+    let s = size_of(tables, sections::STOP_LIST);
+    (size_of(tables, sections::STATIONS) == s)
+        & (size_of(tables, sections::CHILD_STARTS) == s + 1)
+        & (size_of(tables, sections::CALL_STARTS) == s + 1)
+        & (size_of(tables, sections::SERVED) == s)
+        & (size_of(tables, sections::TRANSFER_STARTS) == s + 1)
+        & (size_of(tables, sections::WALK_STARTS) == s + 1)
 }
 
 // Whether each section has the words that the counts of stops, routes and trips ask for, and whole rows.
@@ -83,17 +86,17 @@ fn sizes_ok(tables: &[u32]) -> bool
     requires { ⌜ Headed (now tables) ⌝ }
     ensures { λ r. ⌜ r ≡ sized (now (tables .entry)) ⌝ }
 {
-    let r = size_of(tables, 11);
+    let r = size_of(tables, sections::ROUTE_STOP_STARTS);
     stop_sizes_ok(tables)
         & (1 <= r)
-        & (size_of(tables, 13) == r)
-        & (1 <= size_of(tables, 15))
-        & (size_of(tables, 14) == entries(tables, 15))
-        & (1 <= size_of(tables, 17))
-        & (size_of(tables, 5) % 3 == 0)
-        & (size_of(tables, 8) % 4 == 0)
-        & (size_of(tables, 10) % 2 == 0)
-        & (size_of(tables, 16) % 2 == 0)
+        & (size_of(tables, sections::ROUTE_TRIP_STARTS) == r)
+        & (1 <= size_of(tables, sections::TIME_STARTS))
+        & (size_of(tables, sections::ROUTE_TRIPS) == entries(tables, sections::TIME_STARTS))
+        & (1 <= size_of(tables, sections::AREA_STARTS))
+        & (size_of(tables, sections::CALLS) % sections::CALL_WORDS == 0)
+        & (size_of(tables, sections::TRANSFERS) % sections::TRANSFER_WORDS == 0)
+        & (size_of(tables, sections::WALKS) % sections::WALK_WORDS == 0)
+        & (size_of(tables, sections::TIMES) % sections::TIME_WORDS == 0)
 }
 
 // Whether no count is over its limit.
@@ -101,20 +104,20 @@ fn limits_ok(tables: &[u32]) -> bool
     requires { ⌜ Headed (now tables) ⌝ }
     ensures { λ r. ⌜ r ≡ limited (now (tables .entry)) ⌝ }
 {
-    (size_of(tables, 0) <= 4_096)
-        & (entries(tables, 11) <= 1_024)
-        & (entries(tables, 15) <= 16_384)
-        & (size_of(tables, 16) / 2 <= 262_144)
-        & (size_of(tables, 8) / 4 <= 16_384)
-        & (size_of(tables, 10) / 2 <= 32_768)
-        & (entries(tables, 17) <= 1_024)
-        & (size_of(tables, 18) <= 16_384)
+    (size_of(tables, sections::STOP_LIST) <= 4_096)
+        & (entries(tables, sections::ROUTE_STOP_STARTS) <= 1_024)
+        & (entries(tables, sections::TIME_STARTS) <= 16_384)
+        & (size_of(tables, sections::TIMES) / sections::TIME_WORDS <= 262_144)
+        & (size_of(tables, sections::TRANSFERS) / sections::TRANSFER_WORDS <= 16_384)
+        & (size_of(tables, sections::WALKS) / sections::WALK_WORDS <= 32_768)
+        & (entries(tables, sections::AREA_STARTS) <= 1_024)
+        & (size_of(tables, sections::AREA_STOPS) <= 16_384)
 }
 
 // Whether section k is a starts section of n entries, for the list behind it, whose rows have `wide` words.
 fn starts_ok(tables: &[u32], k: usize, n: usize, wide: usize) -> bool
     requires { ⌜ Headed (now tables) ⌝ }
-    requires { ⌜ k < 18 ⌝ }
+    requires { ⌜ k + 1 < SECTIONS ⌝ }
     requires { ⌜ n < size (now tables) k ⌝ }
     requires { ⌜ 0 < wide ⌝ }
     ensures { λ r. ⌜ r ≡ starting (now (tables .entry)) k n (size (now (tables .entry)) (k + 1) / wide) ⌝ }
@@ -132,24 +135,29 @@ fn all_starts_ok(tables: &[u32]) -> bool
     requires { ⌜ Roomy (now tables) ⌝ }
     ensures { λ r. ⌜ r ≡ started (now (tables .entry)) ⌝ }
 {
-    let s = size_of(tables, 0);
-    let r = entries(tables, 11);
-    let t = entries(tables, 15);
-    let a = entries(tables, 17);
-    starts_ok(tables, 2, s, 1)
-        & starts_ok(tables, 4, s, 3)
-        & starts_ok(tables, 7, s, 4)
-        & starts_ok(tables, 9, s, 2)
-        & starts_ok(tables, 11, r, 1)
-        & starts_ok(tables, 13, r, 1)
-        & starts_ok(tables, 15, t, 2)
-        & starts_ok(tables, 17, a, 1)
+    let s = size_of(tables, sections::STOP_LIST);
+    let r = entries(tables, sections::ROUTE_STOP_STARTS);
+    let t = entries(tables, sections::TIME_STARTS);
+    let a = entries(tables, sections::AREA_STARTS);
+    starts_ok(tables, sections::CHILD_STARTS, s, 1)
+        & starts_ok(tables, sections::CALL_STARTS, s, sections::CALL_WORDS)
+        & starts_ok(
+            tables,
+            sections::TRANSFER_STARTS,
+            s,
+            sections::TRANSFER_WORDS,
+        )
+        & starts_ok(tables, sections::WALK_STARTS, s, sections::WALK_WORDS)
+        & starts_ok(tables, sections::ROUTE_STOP_STARTS, r, 1)
+        & starts_ok(tables, sections::ROUTE_TRIP_STARTS, r, 1)
+        & starts_ok(tables, sections::TIME_STARTS, t, sections::TIME_WORDS)
+        & starts_ok(tables, sections::AREA_STARTS, a, 1)
 }
 
 // How many rows entry i of the starts section k has.
 pub fn count_of(tables: &[u32], k: usize, i: usize) -> usize
     requires { ⌜ Headed (now tables) ⌝ }
-    requires { ⌜ k < 19 ⌝ }
+    requires { ⌜ k < SECTIONS ⌝ }
     requires { ⌜ i + 1 < size (now tables) k ⌝ }
     ensures { λ r. ⌜ r ≡ count (now (tables .entry)) k i ⌝ }
 {
@@ -164,10 +172,10 @@ pub fn count_of(tables: &[u32], k: usize, i: usize) -> usize
 // Whether route r has a stop, and not too many positions.
 fn route_ok(tables: &[u32], r: usize) -> bool
     requires { ⌜ Headed (now tables) ⌝ }
-    requires { ⌜ r + 1 < size (now tables) 11 ⌝ }
+    requires { ⌜ r + 1 < size (now tables) ROUTE-STOP-STARTS ⌝ }
     ensures { λ ok. ⌜ ok ≡ routeFits (now (tables .entry)) r ⌝ }
 {
-    let n = count_of(tables, 11, r);
+    let n = count_of(tables, sections::ROUTE_STOP_STARTS, r);
     (1 <= n) & (n <= 128)
 }
 
@@ -176,7 +184,7 @@ fn positions_ok(tables: &[u32]) -> bool
     requires { ⌜ Headed (now tables) ⌝ }
     ensures { λ ok. ⌜ ok ≡ positioned (now (tables .entry)) ⌝ }
 {
-    let routes = entries(tables, 11);
+    let routes = entries(tables, sections::ROUTE_STOP_STARTS);
     let mut r = 0;
     while r < routes {
         let ok = route_ok(tables, r);

@@ -3,8 +3,9 @@ use borrow.Author.Needs.{needs}
 use Prim.Native.Nat.{_-_, _≤_}
 use mathlib.Core.Path.{_≡_}
 use lib.ListN.{length}
+use Rattle.repository.specs.Sections.{callRoute}
 use Rattle.repository.specs.NetOf.{netOf}
-use Rattle.repository.specs.Rows.{calls, firstRow, rest, callRoute}
+use Rattle.repository.specs.Rows.{calls, firstRow, rest}
 use Rattle.allocator.specs.Layout.{view}
 use Rattle.allocator.specs.Tidy.{Tidy}
 use Rattle.explorer.specs.Turns.{Turn}

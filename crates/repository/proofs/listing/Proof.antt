@@ -1,6 +1,6 @@
 -- `listing`: the words from the entry to the next.
 use borrow.Author.Needs.{needs}
-use Rattle.repository.specs.NetOf.{count, listOf}
+use Rattle.repository.proofs.Reading.{listing-is}
 use Rattle.repository.proofs.listing.Statement.{statement}
 use Rattle.repository.proofs.listing.Tie as tie
 
@@ -17,8 +17,7 @@ part-requires : tie.Need-part-requires
 part-requires c κs = search needs
 
 returns : tie.Need-returns
-unfolding listOf count
-returns c = cc
+returns c = search listing-is
 
 pub listing-spec : {M : Type 1} → statement M
 listing-spec =

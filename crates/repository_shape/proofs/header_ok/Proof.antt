@@ -10,6 +10,9 @@ returns c = search (needs, headed-short)
 head-requires : tie.Need-head-requires
 head-requires c κs = search needs
 
+cast-first : tie.Need-cast-first
+cast-first c = search needs
+
 head-requires-2 : tie.Need-head-requires-2
 head-requires-2 c κs = search needs
 
@@ -25,4 +28,4 @@ returns-2 c = search (needs, headed-is)
 pub header-ok-spec : {M : Type 1} → statement M
 header-ok-spec =
     tie.close
-    (tie.spec returns head-requires head-requires-2 cast-last never-falls-requires returns-2)
+    (tie.spec returns head-requires cast-first head-requires-2 cast-last never-falls-requires returns-2)

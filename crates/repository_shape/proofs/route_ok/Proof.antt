@@ -1,6 +1,6 @@
 -- `route_ok`: the answer joins its tests as the definition does.
 use borrow.Author.Needs.{needs}
-use Rattle.repository_shape.specs.Shape.{routeFits}
+use Rattle.repository_shape.proofs.Tests.{route-fits-is}
 use Rattle.repository_shape.proofs.route_ok.Statement.{statement}
 use Rattle.repository_shape.proofs.route_ok.Tie as tie
 
@@ -8,8 +8,7 @@ count-of-requires : tie.Need-count-of-requires
 count-of-requires c κs = search needs
 
 returns : tie.Need-returns
-unfolding routeFits
-returns c = cc
+returns c = search route-fits-is
 
 pub route-ok-spec : {M : Type 1} → statement M
 route-ok-spec = tie.close (tie.spec count-of-requires returns)

@@ -1,6 +1,6 @@
 -- `call_first`: the second word of the row.
 use borrow.Author.Needs.{needs}
-use Rattle.repository.specs.Rows.{calls, startsOf, wideOf, callFirst}
+use Rattle.repository.specs.Rows.{calls, startsOf, wideOf}
 use Rattle.repository.proofs.Reading.{cell-room}
 use Rattle.repository.proofs.calls.call_first.Statement.{statement}
 use Rattle.repository.proofs.calls.call_first.Tie as tie
@@ -16,7 +16,6 @@ unfolding startsOf wideOf
 word-requires c κs = search (needs, cell-room calls)
 
 returns : tie.Need-returns
-unfolding callFirst
 returns c = search needs
 
 pub call-first-spec : {M : Type 1} → statement M

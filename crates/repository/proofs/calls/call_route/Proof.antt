@@ -1,6 +1,6 @@
 -- `call_route`: the first word of the row.
 use borrow.Author.Needs.{needs}
-use Rattle.repository.specs.Rows.{calls, startsOf, wideOf, callRoute}
+use Rattle.repository.specs.Rows.{calls, startsOf, wideOf}
 use Rattle.repository.proofs.Reading.{cell-room-0}
 use Rattle.repository.proofs.calls.call_route.Statement.{statement}
 use Rattle.repository.proofs.calls.call_route.Tie as tie
@@ -13,7 +13,6 @@ unfolding startsOf wideOf
 word-requires c κs = search (needs, cell-room-0 calls)
 
 returns : tie.Need-returns
-unfolding callRoute
 returns c = search needs
 
 pub call-route-spec : {M : Type 1} → statement M

@@ -1,7 +1,7 @@
 -- `transfer_metres`: the fourth word of the row, which accepted tables have as a stretch.
 use borrow.Author.Needs.{needs}
-use Rattle.repository.specs.Rows.{transfers, startsOf, wideOf, transferMetres}
-use Rattle.repository.proofs.Reading.{cell-room, transfer-stretch, stretch-of}
+use Rattle.repository.specs.Rows.{transfers, startsOf, wideOf}
+use Rattle.repository.proofs.Reading.{cell-room, transfer-stretch, stretch-of, transfer-metres-is}
 use Rattle.repository.proofs.footpaths.transfer_metres.Statement.{statement}
 use Rattle.repository.proofs.footpaths.transfer_metres.Tie as tie
 
@@ -19,8 +19,7 @@ distance-of-requires : tie.Need-distance-of-requires
 distance-of-requires c κs = search (needs, transfer-stretch)
 
 returns : tie.Need-returns
-unfolding transferMetres
-returns c = (cc, search (needs, stretch-of, transfer-stretch))
+returns c = (search transfer-metres-is, search (needs, stretch-of, transfer-stretch))
 
 pub transfer-metres-spec : {M : Type 1} → statement M
 transfer-metres-spec =

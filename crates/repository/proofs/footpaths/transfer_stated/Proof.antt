@@ -1,6 +1,6 @@
 -- `transfer_stated`: the third word of the row.
 use borrow.Author.Needs.{needs}
-use Rattle.repository.specs.Rows.{transfers, startsOf, wideOf, transferStated}
+use Rattle.repository.specs.Rows.{transfers, startsOf, wideOf}
 use Rattle.repository.proofs.Reading.{cell-room}
 use Rattle.repository.proofs.footpaths.transfer_stated.Statement.{statement}
 use Rattle.repository.proofs.footpaths.transfer_stated.Tie as tie
@@ -16,7 +16,6 @@ unfolding startsOf wideOf
 word-requires c κs = search (needs, cell-room transfers)
 
 returns : tie.Need-returns
-unfolding transferStated
 returns c = search needs
 
 pub transfer-stated-spec : {M : Type 1} → statement M

@@ -10,7 +10,7 @@ listing-requires c κs = search (needs, child-of-stop)
 
 returns : tie.Need-returns
 unfolding netOf
-returns c = cc
+returns c = search
 
 pub children-spec : {M : Type 1} → statement M
 children-spec = tie.close (tie.spec listing-requires returns)

@@ -10,7 +10,7 @@ listing-requires c κs = search (needs, stop-of-area)
 
 returns : tie.Need-returns
 unfolding netOf
-returns c = cc
+returns c = search
 
 pub stops-named-spec : {M : Type 1} → statement M
 stops-named-spec = tie.close (tie.spec listing-requires returns)

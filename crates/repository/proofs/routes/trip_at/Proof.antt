@@ -1,8 +1,7 @@
 -- `trip_at`: the place is in range, and the word is the trip.
 use borrow.Author.Needs.{needs}
-use Rattle.repository.specs.NetOf.{netOf}
 use Rattle.repository.proofs.Rooms.{trip-of-route}
-use Rattle.repository.proofs.Reading.{list-entry, trip-room}
+use Rattle.repository.proofs.Reading.{list-entry, trip-room, trip-at-is}
 use Rattle.repository.proofs.routes.trip_at.Statement.{statement}
 use Rattle.repository.proofs.routes.trip_at.Tie as tie
 
@@ -19,8 +18,7 @@ word-requires : tie.Need-word-requires
 word-requires c κs = search (needs, trip-room)
 
 returns : tie.Need-returns
-unfolding netOf
-returns c = cc
+returns c = search trip-at-is
 
 pub trip-at-spec : {M : Type 1} → statement M
 trip-at-spec = tie.close (tie.spec row-from-requires cast-a add-word word-requires returns)

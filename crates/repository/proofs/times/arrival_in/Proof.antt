@@ -1,6 +1,5 @@
 -- `arrival_in`: the row is in range.
 use borrow.Author.Needs.{needs}
-use Rattle.repository.specs.Rows.{arrivalIn}
 use Rattle.repository.proofs.Reading.{arrival-room}
 use Rattle.repository.proofs.times.arrival_in.Statement.{statement}
 use Rattle.repository.proofs.times.arrival_in.Tie as tie
@@ -15,7 +14,6 @@ word-requires : tie.Need-word-requires
 word-requires c κs = search (needs, arrival-room)
 
 returns : tie.Need-returns
-unfolding arrivalIn
 returns c = search needs
 
 pub arrival-in-spec : {M : Type 1} → statement M

@@ -1,6 +1,5 @@
 -- `departure_in`: the row is in range.
 use borrow.Author.Needs.{needs}
-use Rattle.repository.specs.Rows.{departureIn}
 use Rattle.repository.proofs.Reading.{departure-room}
 use Rattle.repository.proofs.times.departure_in.Statement.{statement}
 use Rattle.repository.proofs.times.departure_in.Tie as tie
@@ -18,7 +17,6 @@ word-requires : tie.Need-word-requires
 word-requires c κs = search (needs, departure-room)
 
 returns : tie.Need-returns
-unfolding departureIn
 returns c = search needs
 
 pub departure-in-spec : {M : Type 1} → statement M

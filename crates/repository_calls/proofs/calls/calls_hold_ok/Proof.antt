@@ -2,7 +2,7 @@
 use borrow.Author.Needs.{needs}
 use Prim.Native.Nat.{_-_}
 use Rattle.base.specs.All.{So, so-start}
-use Rattle.repository.specs.Sections.{stops}
+use Rattle.repository.specs.Sections.{stops, CALL-STARTS}
 use Rattle.repository.specs.Listed.{under, call, callsHold}
 use Rattle.repository_calls.proofs.Rooms.{row-in}
 use Rattle.repository_calls.proofs.Turns.{done, turn-on, rows-pass, rows-fail}
@@ -16,7 +16,7 @@ abbrev μ-loop2 : tie.MeasureT-loop2
 μ-loop2 tables n s j₀ end j = end - j
 
 abbrev Inv-loop : tie.InvT-loop
-Inv-loop tables n s₀ s = So (under tables 4 (call tables)) 0 (stops tables) s
+Inv-loop tables n s₀ s = So (under tables CALL-STARTS (call tables)) 0 (stops tables) s
 
 abbrev μ-loop : tie.MeasureT-loop
 μ-loop tables n s₀ s = n - s

@@ -1,6 +1,6 @@
 -- `stop_at`: the position stands inside the route's stops.
 use borrow.Author.Needs.{needs}
-use Rattle.repository_calls.proofs.Entries.{stop-room}
+use Rattle.repository_calls.proofs.Entries.{stop-room, stop-at-is}
 use Rattle.repository_calls.proofs.calls.stop_at.Statement.{statement}
 use Rattle.repository_calls.proofs.calls.stop_at.Tie as tie
 
@@ -17,7 +17,7 @@ item-requires-2 : tie.Need-item-requires-2
 item-requires-2 c κs = (search needs, (search needs, search (needs, stop-room)))
 
 returns : tie.Need-returns
-returns c = cc
+returns c = search stop-at-is
 
 pub stop-at-spec : {M : Type 1} → statement M
 stop-at-spec = tie.close (tie.spec item-requires cast-from add-item item-requires-2 returns)

@@ -1,7 +1,6 @@
 -- `distances_ok`: transfers, then walks.
 use borrow.Author.Needs.{needs}
-use Rattle.repository.specs.Checked.{measured}
-use Rattle.repository_check.specs.Distances.{transferFit, walkFit}
+use Rattle.repository_check.proofs.Tests.{measured-is}
 use Rattle.repository_check.proofs.distances.distances_ok.Statement.{statement}
 use Rattle.repository_check.proofs.distances.distances_ok.Tie as tie
 
@@ -18,8 +17,7 @@ walks-ok-requires : tie.Need-walks-ok-requires
 walks-ok-requires c κs = search needs
 
 returns : tie.Need-returns
-unfolding measured transferFit walkFit
-returns c = cc
+returns c = search measured-is
 
 pub distances-ok-spec : {M : Type 1} → statement M
 distances-ok-spec =

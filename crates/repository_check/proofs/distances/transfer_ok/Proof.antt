@@ -1,7 +1,7 @@
 -- `transfer_ok`: both words are in the row.
 use borrow.Author.Needs.{needs}
-use Rattle.repository_check.specs.Distances.{transferFit}
 use Rattle.repository_check.proofs.Rooms.{span-room, transfer-room}
+use Rattle.repository_check.proofs.Tests.{transfer-fit-is}
 use Rattle.repository_check.proofs.distances.transfer_ok.Statement.{statement}
 use Rattle.repository_check.proofs.distances.transfer_ok.Tie as tie
 
@@ -27,8 +27,7 @@ distance-ok-requires : tie.Need-distance-ok-requires
 distance-ok-requires c κs = search needs
 
 returns : tie.Need-returns
-unfolding transferFit
-returns c = cc
+returns c = search transfer-fit-is
 
 pub transfer-ok-spec : {M : Type 1} → statement M
 transfer-ok-spec =

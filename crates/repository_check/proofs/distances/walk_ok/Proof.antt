@@ -1,7 +1,7 @@
 -- `walk_ok`: the word is in the row.
 use borrow.Author.Needs.{needs}
-use Rattle.repository_check.specs.Distances.{walkFit}
 use Rattle.repository_check.proofs.Rooms.{walk-room}
+use Rattle.repository_check.proofs.Tests.{walk-fit-is}
 use Rattle.repository_check.proofs.distances.walk_ok.Statement.{statement}
 use Rattle.repository_check.proofs.distances.walk_ok.Tie as tie
 
@@ -18,8 +18,7 @@ distance-ok-requires : tie.Need-distance-ok-requires
 distance-ok-requires c κs = search needs
 
 returns : tie.Need-returns
-unfolding walkFit
-returns c = cc
+returns c = search walk-fit-is
 
 pub walk-ok-spec : {M : Type 1} → statement M
 walk-ok-spec = tie.close (tie.spec mul-word add-word word-requires distance-ok-requires returns)

@@ -2,7 +2,7 @@
 use borrow.Author.Needs.{needs}
 use Prim.Native.Nat.{_-_}
 use Rattle.base.specs.All.{So, so-start}
-use Rattle.repository.specs.Sections.{stops}
+use Rattle.repository.specs.Sections.{stops, CHILD-STARTS}
 use Rattle.repository.specs.Listed.{under, child, childrenName}
 use Rattle.repository_calls.proofs.Rooms.{row-in}
 use Rattle.repository_calls.proofs.Turns.{done, turn-on, rows-pass, rows-fail}
@@ -16,7 +16,7 @@ abbrev μ-loop2 : tie.MeasureT-loop2
 μ-loop2 tables n p j₀ end j = end - j
 
 abbrev Inv-loop : tie.InvT-loop
-Inv-loop tables n p₀ p = So (under tables 2 (child tables)) 0 (stops tables) p
+Inv-loop tables n p₀ p = So (under tables CHILD-STARTS (child tables)) 0 (stops tables) p
 
 abbrev μ-loop : tie.MeasureT-loop
 μ-loop tables n p₀ p = n - p

@@ -2,7 +2,7 @@
 use borrow.Author.Needs.{needs}
 use Prim.Native.Nat.{_-_}
 use Rattle.base.specs.All.{So, so-start}
-use Rattle.repository.specs.Sections.{rows}
+use Rattle.repository.specs.Sections.{rows, WALKS, WALK-WORDS}
 use Rattle.repository.specs.Listed.{walk, walks}
 use Rattle.repository_calls.proofs.Turns.{done, turn, fault}
 use Rattle.repository_listing.proofs.Rows.{walk-right, walk-wrong}
@@ -10,7 +10,7 @@ use Rattle.repository_listing.proofs.paths.walks_ok.Statement.{statemen
 use Rattle.repository_listing.proofs.paths.walks_ok.Tie as tie
 
 abbrev Inv-loop : tie.InvT-loop
-Inv-loop tables limit n j₀ j = So (walk tables) 0 (rows tables 10 2) j
+Inv-loop tables limit n j₀ j = So (walk tables) 0 (rows tables WALKS WALK-WORDS) j
 
 abbrev μ-loop : tie.MeasureT-loop
 μ-loop tables limit n j₀ j = n - j
@@ -23,9 +23,6 @@ rows-of-requires c κs = search needs
 
 loop-holds : tie.Need-loop-holds Inv-loop μ-loop
 loop-holds c = search (needs, so-start)
-
-cast-item : tie.Need-cast-item Inv-loop μ-loop
-cast-item c = search needs
 
 mul-item : tie.Need-mul-item Inv-loop μ-loop
 mul-item c = search needs
@@ -59,7 +56,6 @@ walks-ok-spec =
     size-of-requires
     rows-of-requires
     loop-holds
-    cast-item
     mul-item
     item-requires
     returns

@@ -2,7 +2,7 @@
 use borrow.Author.Needs.{needs}
 use Prim.Native.Nat.{_-_}
 use Rattle.base.specs.All.{So, so-start}
-use Rattle.repository.specs.Sections.{routes}
+use Rattle.repository.specs.Sections.{routes, ROUTE-TRIP-STARTS}
 use Rattle.repository.specs.Listed.{under, timeEach, tripTimes}
 use Rattle.repository_calls.proofs.Rooms.{row-in}
 use Rattle.repository_calls.proofs.Turns.{done, turn-on, rows-pass, rows-fail}
@@ -16,7 +16,7 @@ abbrev μ-loop2 : tie.MeasureT-loop2
 μ-loop2 tables n r i₀ end i = end - i
 
 abbrev Inv-loop : tie.InvT-loop
-Inv-loop tables n r₀ r = So (under tables 13 (timeEach tables)) 0 (routes tables) r
+Inv-loop tables n r₀ r = So (under tables ROUTE-TRIP-STARTS (timeEach tables)) 0 (routes tables) r
 
 abbrev μ-loop : tie.MeasureT-loop
 μ-loop tables n r₀ r = n - r
