@@ -10,6 +10,7 @@ use Rattle.model.specs.declared.Direction.{Direction}
 use Rattle.model.specs.declared.Direction.the-variants.{Departure, Arrival}
 use Rattle.model.specs.declared.Leg.{Leg}
 use Rattle.model.specs.Tables.{Net}
+use Rattle.model.specs.Limits.{LAST-MOMENT}
 use Rattle.model.specs.State.{Task}
 use Rattle.model.specs.Round.{Order, Fair}
 use Rattle.model.specs.Search.{search}
@@ -39,7 +40,7 @@ module _ (n : Net) (ok : Sound n) where
       }
 
   -- a footpath starts within the timetable
-  pub timed-bounds : (d : Direction) (g : Leg) → Timed d n g → (0 < nearAt d g) × (nearAt d g ≤ 1_000_000)
+  pub timed-bounds : (d : Direction) (g : Leg) → Timed d n g → (0 < nearAt d g) × (nearAt d g ≤ LAST-MOMENT)
   timed-bounds Departure g c =
       let one = ok .from-one (c .route) (c .place) (c .position) (c .routes) (c .trips) (c .within) in
       let stays = ok .stays (c .route) (c .place) (c .position) (c .routes) (c .trips) (c .within) in
