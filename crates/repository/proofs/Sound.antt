@@ -16,6 +16,7 @@ use Rattle.repository.proofs.Rooms.{stop-of-area}
 use Rattle.repository.proofs.Lists.{transfers-are, walks-are, rest-said}
 use Rattle.repository.proofs.Ranges.{of-stop, row-known, transfer-known, walk-known}
 use Rattle.repository.proofs.Stops.{stop-known, station-in}
+use Rattle.repository.proofs.Exact.{routes-contain}
 
 module _ {w : List ℕ} (h : Accepted w) where
   transfers-in : (s : ℕ) (f : Foot) → s < netOf w .stops → List·Memᴰ f (netOf w .transfers s) → f .to < netOf w .stops
@@ -47,14 +48,10 @@ module _ {w : List ℕ} (h : Accepted w) where
       let y = rest-said (sec w AREA-STOPS) (sec w AREA-STARTS a) (sec w AREA-STARTS (a + 1)) m in
       rw (y .says) (h .listed .area-in (y .row) (omega (arith, y .past, (stop-of-area (h .laid) i) .within)))
 
-  some-stop : (r : ℕ) → r < netOf w .routes → 0 < netOf w .positions r
-  unfolding netOf
-  some-stop r i = h .laid .some-stop r i
-
 pub accepted-sound : {w : List ℕ} → Accepted w → Sound (netOf w)
 accepted-sound h = record {
-  some-stop = some-stop h;
   stops-in = λ r p i l. stop-known h i l refl;
+  routes-in = λ s r i m. (routes-contain h i r m) .route;
   feet-in = feet-in h;
   station-in = λ s p i e. station-in h i e;
   children-in = children-in h;
