@@ -9,12 +9,8 @@ use borrow.Author.Tests.{eqb-true, eqb-false}
 use lib.Dec.{eqb}
 use lib.ListN.{length}
 use Rattle.base.specs.Choice.{split}
-use Rattle.marks.specs.Marks.{marked, withMark}
+use Rattle.marks.specs.Marks.{marked, withMark, Stand}
 use Rattle.marks.proofs.Laws.{mark-length, mark-same, mark-other}
-
--- a stop is marked exactly where f takes it
-pub record Stand (ws : List ℕ) (f : ℕ → Bool) : Type 0 where
-  pub agree : (t : ℕ) → t < 64 * length ws → marked ws t ≡ f t
 
 abbrev pub with-one : (ℕ → Bool) → ℕ → ℕ → Bool
 with-one f s t = f t || eqb t s

@@ -1,9 +1,10 @@
 -- Marked stops, 64 to a word: whether one is marked, the words with one more, the marked stops of a range.
 -- Assumes nothing.
-use Prim.Native.Nat.{ℕ, zero, suc, _-_, _/_, _%_, _^_}
+use Prim.Native.Nat.{ℕ, zero, suc, _-_, _*_, _/_, _%_, _^_, _<_}
+use mathlib.Core.Path.{_≡_}
 use mathlib.Core.Bool.{Bool, true, false}
 use mathlib.Core.List.{List, [], _∷_}
-use lib.ListN.{getD, set}
+use lib.ListN.{length, getD, set}
 use lib.Dec.{eqb}
 use lib.Bits.{bitOr}
 use Rattle.base.specs.Bits.{bit}
@@ -17,6 +18,10 @@ marked ws s = eqb (bit (getD ws (s / 64) 0) (s % 64)) 1
 -- the words with s marked too
 unfoldable pub withMark : List ℕ → ℕ → List ℕ
 withMark ws s = set ws (s / 64) (bitOr (getD ws (s / 64) 0) (2 ^ (s % 64)))
+
+-- the words stand for a set of stops: a stop is marked exactly where f takes it
+pub record Stand (ws : List ℕ) (f : ℕ → Bool) : Type 0 where
+  pub agree : (t : ℕ) → t < 64 * length ws → marked ws t ≡ f t
 
 -- s before l, if b
 abbrev pub keep : Bool → ℕ → List ℕ → List ℕ

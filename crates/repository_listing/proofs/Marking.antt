@@ -10,8 +10,8 @@ use borrow.Author.Tests.{eqb-true, eqb-false, eq-eqb, ne-eqb, not-false}
 use lib.ListN.{length}
 use Rattle.base.specs.Choice.{split}
 use Rattle.base.specs.All.{So, so-start, so-on, so-fails, so-passes}
-use Rattle.marks.specs.Marks.{marked, withMark}
-use Rattle.marks.proofs.Stand.{Stand, stand-more}
+use Rattle.marks.specs.Marks.{marked, withMark, Stand}
+use Rattle.marks.proofs.Stand.{stand-more}
 use Rattle.repository.specs.Sections.{size, sec, CHILDREN}
 use Rattle.repository.specs.Listed.{among, fresh, distinct}
 use Rattle.repository_listing.specs.Fitting.{Fitting, Unmarked, Marks, markedOn, markedBy}

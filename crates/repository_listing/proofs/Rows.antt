@@ -12,8 +12,7 @@ use Rattle.model.specs.Moments.{MAX}
 use Rattle.repository.specs.Sections.{size, sec, stops, STOP-LIST, STATIONS, CHILDREN, ROUTE-STOP-STARTS, ROUTE-TRIPS}
 use Rattle.repository.specs.Sections.{TIME-STARTS, transferFrom, transferTo, walkTo}
 use Rattle.repository.specs.NetOf.{count}
-use Rattle.marks.specs.Marks.{marked}
-use Rattle.marks.proofs.Stand.{Stand}
+use Rattle.marks.specs.Marks.{marked, Stand}
 use Rattle.repository.specs.Listed.{among, inPlace, station, child, ofStation, timeEach, transfer, walk}
 
 module _ (w : List ℕ) (s : ℕ) {r : ℕ} (e : r ≡ sec w STOP-LIST s) where

@@ -4,8 +4,7 @@ use mathlib.Core.Path.{_≡_}
 use mathlib.Core.Bool.{Bool, true, false, cond}
 use mathlib.Core.List.{List}
 use lib.ListN.{length}
-use Rattle.marks.specs.Marks.{marked, withMark}
-use Rattle.marks.proofs.Stand.{Stand}
+use Rattle.marks.specs.Marks.{marked, withMark, Stand}
 use Rattle.repository.specs.Sections.{size, sec, SECTIONS}
 use Rattle.repository.specs.Listed.{among}
 

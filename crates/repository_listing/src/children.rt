@@ -2,7 +2,7 @@
 ghost use mathlib.Core.Path.{_≡_};
 ghost use Prim.Native.Nat.{_*_, _≤_, _<_};
 ghost use lib.ListN.{length};
-ghost use Rattle.marks.proofs.Stand.{Stand};
+ghost use Rattle.marks.specs.Marks.{Stand};
 ghost use Rattle.repository.specs.Sections.{size, stops, CHILDREN};
 ghost use Rattle.repository.specs.Laid.{Laid};
 ghost use Rattle.repository.specs.Listed.{among, child, children, childrenName, childrenAll, ofStation};
