@@ -8,9 +8,9 @@ use native.Mathlib.Omega.{arith}
 use lib.ListN.{length, getD}
 use Rattle.model.specs.declared.Direction.{Direction}
 use Rattle.model.specs.declared.Leg.{Leg}
-use Rattle.model.specs.Back.{near, back}
+use Rattle.model.specs.Back.{near, back, Way, ends, leads}
 use Rattle.model.specs.Bytes.{legSize, sizeOf}
-use Rattle.model.proofs.Way.{Way, ends, leads, way-is, onward-le}
+use Rattle.model.proofs.Way.{way-is, onward-le}
 use Rattle.allocator.specs.declared.Parent.{Parent}
 use Rattle.allocator.specs.declared.Parent.the-variants.{Leg as By, Nothing}
 use Rattle.allocator.specs.Rows.{parentOf}

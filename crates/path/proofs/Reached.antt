@@ -8,11 +8,11 @@ use lib.ListN.{length}
 use Rattle.model.specs.declared.Direction.{Direction}
 use Rattle.model.specs.declared.Leg.{Leg}
 use Rattle.model.specs.declared.Target.{Target}
-use Rattle.model.specs.Back.{back}
+use Rattle.model.specs.Back.{back, Way, ends, leads}
 use Rattle.model.specs.State.{Task}
 use Rattle.model.specs.Tables.{Net}
 use Rattle.model.proofs.Search.{Reached}
-use Rattle.model.proofs.Way.{Way, ends, leads, way-is}
+use Rattle.model.proofs.Way.{way-is}
 use Rattle.path.specs.Traced.{Traced}
 
 pub reached-traced : (n : Net) (q : Task) {k : ℕ} {w : List (Option Leg)} {g : Target} → Reached n q k w g

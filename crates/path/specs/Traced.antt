@@ -5,7 +5,7 @@ use mathlib.Core.Option.{Option}
 use lib.ListN.{length}
 use Rattle.model.specs.declared.Direction.{Direction}
 use Rattle.model.specs.declared.Leg.{Leg}
-use Rattle.model.proofs.Way.{Way}
+use Rattle.model.specs.Back.{Way}
 
 pub record Traced (d : Direction) (n : ℕ) (w : List (Option Leg)) (k s : ℕ) : Type 0 where
   pub legs : List Leg
