@@ -1,4 +1,4 @@
--- When two networks are the same network, however they are written down.
+-- When two networks are the same network, however they are written down: `Same` and `SamePlaces` as lists, which compute.
 use Prim.Native.Nat.{ℕ}
 use mathlib.Core.Path.{_≡_}
 use Rattle.base.specs.Tab.{tab}
