@@ -8,6 +8,7 @@ use Rattle.model.specs.declared.LegType.the-variants.{Transit, Transfer, Walk}
 use Rattle.model.specs.Tables.{Foot}
 use Rattle.model.specs.Journey.{listedUnder}
 use Rattle.model.specs.Sound.{Narrow}
+use Rattle.model.specs.Limits.{LONGEST-SPAN}
 use Rattle.repository.specs.NetOf.{transferRow, walkRow, netOf}
 use Rattle.repository.specs.Accepted.{Accepted}
 use Rattle.repository.specs.Rows.{transfers, walks}
@@ -16,7 +17,7 @@ use Rattle.repository.proofs.Ranges.{stops-few, of-stop, row-known, tra
 use Rattle.repository.proofs.Trips.{trip-few}
 
 module _ {w : List ℕ} (h : Accepted w) where
-  spans : (c : LegType) (s : ℕ) (f : Foot) → s < netOf w .stops → List·Memᴰ f (listedUnder (netOf w) c s) → f .span ≤ 86_400
+  spans : (c : LegType) (s : ℕ) (f : Foot) → s < netOf w .stops → List·Memᴰ f (listedUnder (netOf w) c s) → f .span ≤ LONGEST-SPAN
   spans (Transit v) s f i m = absurd (List·Memᴰ·not-nil m)
   spans Transfer s f i m =
       let y = rest-said (transferRow w) _ _ (rw (transfers-are w s refl refl) at m) in

@@ -11,6 +11,7 @@ use Rattle.base.specs.Choice.{split}
 use Rattle.shared.proofs.Span.{span-most}
 use Rattle.model.specs.Moments.{MAX}
 use Rattle.model.specs.Spans.{transferSpan, walkSpan}
+use Rattle.model.specs.Limits.{MOST-STOPS, MOST-ROUTES, LONGEST-SPAN}
 use Rattle.repository.specs.Sections.{stops, callRoute, callFirst, transferStated}
 use Rattle.repository.specs.NetOf.{transferRow, walkRow, netOf}
 use Rattle.repository.specs.Laid.{Laid}
@@ -22,11 +23,11 @@ use Rattle.repository.proofs.Rooms.{past-in}
 -- ---- the limits, as far as the network shows them
 
 module _ {w : List ℕ} (h : Laid w) where
-  pub stops-few : netOf w .stops ≤ 4_096
+  pub stops-few : netOf w .stops ≤ MOST-STOPS
   unfolding netOf
   stops-few = h .stops-limit
 
-  pub routes-few : netOf w .routes ≤ 1_024
+  pub routes-few : netOf w .routes ≤ MOST-ROUTES
   unfolding netOf
   routes-few = h .routes-limit
 
@@ -69,18 +70,18 @@ unfolding netOf walkRow rowCount startsOf wideOf
 walk-known {j = j} h i e = rw e (h .listed .walk-to j i)
 
 pub transfer-short : {w : List ℕ} {j x : ℕ} → Accepted w → j < rowCount transfers w → x ≡ (transferRow w j) .span
-    → x ≤ 86_400
+    → x ≤ LONGEST-SPAN
 unfolding transferRow transferSpan rowCount startsOf wideOf
 transfer-short {w} {j} h i e =
     split (eqb (transferStated w j) MAX)
     (λ t. rw (e, t) (omega (arith, span-most _ (h .measured .transfers j i))))
     (λ t. rw (e, t) (stated t (h .measured .spans j i)))
   where
-    stated : eqb (transferStated w j) MAX ≡ false → (transferStated w j ≡ MAX) ⊎ (transferStated w j ≤ 86_400)
-        → transferStated w j ≤ 86_400
+    stated : eqb (transferStated w j) MAX ≡ false → (transferStated w j ≡ MAX) ⊎ (transferStated w j ≤ LONGEST-SPAN)
+        → transferStated w j ≤ LONGEST-SPAN
     stated t (inl same) = absurd (eqb-false _ _ t same)
     stated t (inr l) = l
 
-pub walk-short : {w : List ℕ} {j x : ℕ} → Accepted w → j < rowCount walks w → x ≡ (walkRow w j) .span → x ≤ 86_400
+pub walk-short : {w : List ℕ} {j x : ℕ} → Accepted w → j < rowCount walks w → x ≡ (walkRow w j) .span → x ≤ LONGEST-SPAN
 unfolding walkRow walkSpan rowCount startsOf wideOf
 walk-short {j = j} h i e = rw e (omega (arith, span-most _ (h .measured .walks j i)))

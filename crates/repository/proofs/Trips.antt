@@ -4,6 +4,7 @@ use mathlib.Core.Path.{_≡_, refl, _∙_}
 use mathlib.Core.List.{List}
 use native.Mathlib.Omega.{arith}
 use Rattle.model.specs.Tables.{Net}
+use Rattle.model.specs.Limits.{MOST-TRIPS}
 use Rattle.repository.specs.Sections.{sec, ROUTE-TRIP-STARTS, TIME-STARTS, arrivalIn, departureIn}
 use Rattle.repository.specs.NetOf.{count, netOf}
 use Rattle.repository.specs.Accepted.{Under, Accepted}
@@ -36,7 +37,7 @@ pub place-of-trip : {n : Net} {r i v : ℕ} → i < n .trips r → v ≡ n .trip
 place-of-trip {i = i} l e = record { place = i; within = l; trip = e }
 
 -- "16,384 trips"
-pub trip-few : {w : List ℕ} {r i : ℕ} → Accepted w → r < netOf w .routes → i < netOf w .trips r → netOf w .tripAt r i < 16_384
+pub trip-few : {w : List ℕ} {r i : ℕ} → Accepted w → r < netOf w .routes → i < netOf w .trips r → netOf w .tripAt r i < MOST-TRIPS
 unfolding tripCount
 trip-few {w} {r} {i} h l k =
     let most = h .laid .trips-limit in omega (arith, trip-known {r = r} h l (place-of-trip {n = netOf w} {r = r} {i = i} k refl))

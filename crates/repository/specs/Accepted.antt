@@ -6,6 +6,7 @@ use mathlib.Core.List.{List}
 use Rattle.shared.specs.Walk.{Stretch}
 use Rattle.model.specs.Moments.{MAX}
 use Rattle.model.specs.Tables.{Net}
+use Rattle.model.specs.Limits.{LAST-MOMENT, LONGEST-SPAN}
 use Rattle.repository.specs.Sections.{size, sec, stops, routes, trips, areas, rows, CHILD-STARTS, CHILDREN}
 use Rattle.repository.specs.Sections.{CALL-STARTS, TRANSFER-STARTS, TRANSFERS, WALKS, ROUTE-STOP-STARTS, ROUTE-STOPS}
 use Rattle.repository.specs.Sections.{ROUTE-TRIP-STARTS, ROUTE-TRIPS, TIME-STARTS, AREA-STARTS, AREA-STOPS}
@@ -46,26 +47,32 @@ pub record Listed (w : List ℕ) : Type 0 where
   pub stop-in : (i : ℕ) → i < size w ROUTE-STOPS → routeStopAt w i < stops w
   pub trip-in : (i : ℕ) → i < size w ROUTE-TRIPS → routeTripAt w i < trips w
   pub trip-once : (i j : ℕ) → i < j → j < size w ROUTE-TRIPS → routeTripAt w i ≢ routeTripAt w j
-  pub trip-long : (r i : ℕ) → r < routes w → Under w ROUTE-TRIP-STARTS r i → count w TIME-STARTS (routeTripAt w i) ≡ count w ROUTE-STOP-STARTS r
+  pub trip-long : (r i : ℕ) → r < routes w
+      → Under w ROUTE-TRIP-STARTS r i → count w TIME-STARTS (routeTripAt w i) ≡ count w ROUTE-STOP-STARTS r
   pub call-route : (s j : ℕ) → s < stops w → Under w CALL-STARTS s j → callRoute w j < routes w
-  pub call-first-in : (s j : ℕ) → s < stops w → Under w CALL-STARTS s j → callFirst w j < count w ROUTE-STOP-STARTS (callRoute w j)
-  pub call-last-in : (s j : ℕ) → s < stops w → Under w CALL-STARTS s j → callLast w j < count w ROUTE-STOP-STARTS (callRoute w j)
+  pub call-first-in : (s j : ℕ) → s < stops w
+      → Under w CALL-STARTS s j → callFirst w j < count w ROUTE-STOP-STARTS (callRoute w j)
+  pub call-last-in : (s j : ℕ) → s < stops w
+      → Under w CALL-STARTS s j → callLast w j < count w ROUTE-STOP-STARTS (callRoute w j)
   pub call-first : (s j : ℕ) → s < stops w → Under w CALL-STARTS s j → stopOn w (callRoute w j) (callFirst w j) ≡ s
   pub call-last : (s j : ℕ) → s < stops w → Under w CALL-STARTS s j → stopOn w (callRoute w j) (callLast w j) ≡ s
-  pub call-rise : (s j : ℕ) → s < stops w → sec w CALL-STARTS s < j → j < sec w CALL-STARTS (s + 1) → callRoute w (j - 1) < callRoute w j
-  pub call-all : (r p : ℕ) → r < routes w → p < count w ROUTE-STOP-STARTS r → Called w r p (stopOn w r p)
+  pub call-rise : (s j : ℕ) → s < stops w
+      → sec w CALL-STARTS s < j → j < sec w CALL-STARTS (s + 1) → callRoute w (j - 1) < callRoute w j
+  pub call-all : (r p : ℕ) → r < routes w
+      → p < count w ROUTE-STOP-STARTS r → Called w r p (stopOn w r p)
   pub served-one : (s : ℕ) → s < stops w → Passed w s → servedAt w s ≡ 1
   pub served-none : (s : ℕ) → s < stops w → (Passed w s → ⊥) → servedAt w s ≡ 0
   pub transfer-from : (s j : ℕ) → s < stops w → Under w TRANSFER-STARTS s j → transferFrom w j ≡ s
   pub transfer-to : (s j : ℕ) → s < stops w → Under w TRANSFER-STARTS s j → transferTo w j < stops w
   pub walk-to : (j : ℕ) → j < rows w WALKS WALK-WORDS → walkTo w j < stops w
   pub area-in : (i : ℕ) → i < size w AREA-STOPS → areaStopAt w i < stops w
-  pub area-once : (a i j : ℕ) → a < areas w → Under w AREA-STARTS a i → i < j → j < sec w AREA-STARTS (a + 1) → areaStopAt w i ≢ areaStopAt w j
+  pub area-once : (a i j : ℕ) → a < areas w → Under w AREA-STARTS a i
+      → i < j → j < sec w AREA-STARTS (a + 1) → areaStopAt w i ≢ areaStopAt w j
 
 -- no number 3
 pub record Timed (n : Net) : Type 0 where
   pub from-one : (r i p : ℕ) → r < n .routes → i < n .trips r → p < n .positions r → 0 < n .arrival (n .tripAt r i) p
-  pub to-million : (r i p : ℕ) → r < n .routes → i < n .trips r → p < n .positions r → n .departure (n .tripAt r i) p ≤ 1_000_000
+  pub to-million : (r i p : ℕ) → r < n .routes → i < n .trips r → p < n .positions r → n .departure (n .tripAt r i) p ≤ LAST-MOMENT
   pub stays : (r i p : ℕ) → r < n .routes → i < n .trips r → p < n .positions r
       → n .arrival (n .tripAt r i) p ≤ n .departure (n .tripAt r i) p
   pub moves : (r i p : ℕ) → r < n .routes → i < n .trips r → suc p < n .positions r
@@ -80,7 +87,7 @@ pub record Ordered (n : Net) : Type 0 where
 
 -- no number 5
 pub record Measured (w : List ℕ) : Type 0 where
-  pub spans : (j : ℕ) → j < rows w TRANSFERS TRANSFER-WORDS → (transferStated w j ≡ MAX) ⊎ (transferStated w j ≤ 86_400)
+  pub spans : (j : ℕ) → j < rows w TRANSFERS TRANSFER-WORDS → (transferStated w j ≡ MAX) ⊎ (transferStated w j ≤ LONGEST-SPAN)
   pub transfers : (j : ℕ) → j < rows w TRANSFERS TRANSFER-WORDS → Stretch (transferMetres w j)
   pub walks : (j : ℕ) → j < rows w WALKS WALK-WORDS → Stretch (walkMetres w j)
 

@@ -7,6 +7,7 @@ use Rattle.shared.specs.Walk.{stretch}
 use Rattle.base.specs.All.{all}
 use Rattle.model.specs.Moments.{MAX}
 use Rattle.model.specs.Tables.{Net}
+use Rattle.model.specs.Limits.{LAST-MOMENT, LONGEST-SPAN}
 use Rattle.repository.specs.Sections.{rows, TRANSFERS, WALKS, TRANSFER-WORDS, WALK-WORDS, transferStated}
 use Rattle.repository.specs.Sections.{transferMetres, walkMetres}
 use Rattle.repository.specs.NetOf.{netOf}
@@ -21,7 +22,7 @@ walk n from f = all (λ r. all (λ p. all (f r p) from (n .trips r)) 0 (n .posit
 unfoldable pub timely : Net → ℕ → ℕ → ℕ → Bool
 timely n r p i =
     let v = n .tripAt r i in
-    leb 1 (n .arrival v p) && leb (n .arrival v p) (n .departure v p) && leb (n .departure v p) 1_000_000
+    leb 1 (n .arrival v p) && leb (n .arrival v p) (n .departure v p) && leb (n .departure v p) LAST-MOMENT
     && (leb (n .positions r) (p + 1) || leb (n .departure v p) (n .arrival v (p + 1)))
 
 unfoldable pub timed : Net → Bool
@@ -40,7 +41,8 @@ ordered n = walk n 1 (behind n)
 -- 5: "a distance that is NaN, below 0 or above 100,000; a stated transfer span above 86,400"
 unfoldable pub measured : List ℕ → Bool
 measured w =
-    all (λ j. (eqb (transferStated w j) MAX || leb (transferStated w j) 86_400) && stretch (transferMetres w j)) 0 (rows w TRANSFERS TRANSFER-WORDS)
+    all (λ j. (eqb (transferStated w j) MAX || leb (transferStated w j) LONGEST-SPAN) && stretch (transferMetres w j)) 0
+    (rows w TRANSFERS TRANSFER-WORDS)
     && all (λ j. stretch (walkMetres w j)) 0 (rows w WALKS WALK-WORDS)
 
 unfoldable pub checkOf : List ℕ → ℕ

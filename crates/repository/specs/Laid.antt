@@ -7,6 +7,8 @@ use mathlib.Core.List.{List}
 use lib.Dec.{leb, eqb}
 use lib.ListN.{length}
 use Rattle.base.specs.All.{all}
+use Rattle.model.specs.Limits.{MOST-STOPS, MOST-ROUTES, MOST-POSITIONS, MOST-TRIPS, MOST-STOP-TIMES}
+use Rattle.model.specs.Limits.{MOST-TRANSFERS, MOST-WALKS, MOST-AREAS, MOST-AREA-ENTRIES}
 use Rattle.repository.specs.Sections.{start, size, sec, stops, routes, trips, areas, rows, STOP-LIST, STATIONS}
 use Rattle.repository.specs.Sections.{CHILD-STARTS, CHILDREN, CALL-STARTS, CALLS, SERVED, TRANSFER-STARTS, TRANSFERS}
 use Rattle.repository.specs.Sections.{WALK-STARTS, WALKS, ROUTE-STOP-STARTS, ROUTE-STOPS, ROUTE-TRIP-STARTS}
@@ -16,22 +18,27 @@ use Rattle.repository.specs.NetOf.{count}
 
 -- the header
 unfoldable pub headed : List ℕ → Bool
-headed w = leb HEADER (length w) && eqb (start w STOP-LIST) HEADER && eqb (start w SECTIONS) (length w) && all (λ k. leb (start w k) (start w (k + 1))) 0 SECTIONS
+headed w =
+    leb HEADER (length w) && eqb (start w STOP-LIST) HEADER && eqb (start w SECTIONS) (length w)
+    && all (λ k. leb (start w k) (start w (k + 1))) 0 SECTIONS
 
 -- each section has the words that the counts of stops, routes and trips ask for, and whole rows
 unfoldable pub sized : List ℕ → Bool
 sized w =
-    eqb (size w STATIONS) (stops w) && eqb (size w CHILD-STARTS) (stops w + 1) && eqb (size w CALL-STARTS) (stops w + 1) && eqb (size w SERVED) (stops w)
-    && eqb (size w TRANSFER-STARTS) (stops w + 1) && eqb (size w WALK-STARTS) (stops w + 1) && leb 1 (size w ROUTE-STOP-STARTS) && eqb (size w ROUTE-TRIP-STARTS) (size w ROUTE-STOP-STARTS)
+    eqb (size w STATIONS) (stops w) && eqb (size w CHILD-STARTS) (stops w + 1) && eqb (size w CALL-STARTS) (stops w + 1)
+    && eqb (size w SERVED) (stops w) && eqb (size w TRANSFER-STARTS) (stops w + 1) && eqb (size w WALK-STARTS) (stops w + 1)
+    && leb 1 (size w ROUTE-STOP-STARTS) && eqb (size w ROUTE-TRIP-STARTS) (size w ROUTE-STOP-STARTS)
     && leb 1 (size w TIME-STARTS) && eqb (size w ROUTE-TRIPS) (trips w) && leb 1 (size w AREA-STARTS)
-    && eqb (size w CALLS % CALL-WORDS) 0 && eqb (size w TRANSFERS % TRANSFER-WORDS) 0 && eqb (size w WALKS % WALK-WORDS) 0 && eqb (size w TIMES % TIME-WORDS) 0
+    && eqb (size w CALLS % CALL-WORDS) 0 && eqb (size w TRANSFERS % TRANSFER-WORDS) 0
+    && eqb (size w WALKS % WALK-WORDS) 0 && eqb (size w TIMES % TIME-WORDS) 0
 
 -- "Most: 4,096 stops, 1,024 routes, .., 16,384 trips, 262,144 stop times, 16,384 transfers, 32,768 walk entries, 1,024 areas, 16,384 area
 -- entries"
 unfoldable pub limited : List ℕ → Bool
 limited w =
-    leb (stops w) 4_096 && leb (routes w) 1_024 && leb (trips w) 16_384 && leb (rows w TIMES TIME-WORDS) 262_144 && leb (rows w TRANSFERS TRANSFER-WORDS) 16_384
-    && leb (rows w WALKS WALK-WORDS) 32_768 && leb (areas w) 1_024 && leb (size w AREA-STOPS) 16_384
+    leb (stops w) MOST-STOPS && leb (routes w) MOST-ROUTES && leb (trips w) MOST-TRIPS
+    && leb (rows w TIMES TIME-WORDS) MOST-STOP-TIMES && leb (rows w TRANSFERS TRANSFER-WORDS) MOST-TRANSFERS
+    && leb (rows w WALKS WALK-WORDS) MOST-WALKS && leb (areas w) MOST-AREAS && leb (size w AREA-STOPS) MOST-AREA-ENTRIES
 
 -- section k is a starts section of n entries for a list of m rows: it "begins with 0, never falls and ends with the number of rows"
 unfoldable pub starting : List ℕ → ℕ → ℕ → ℕ → Bool
@@ -39,13 +46,18 @@ starting w k n m = eqb (sec w k 0) 0 && eqb (sec w k n) m && all (λ i. leb (sec
 
 unfoldable pub started : List ℕ → Bool
 started w =
-    starting w CHILD-STARTS (stops w) (size w CHILDREN) && starting w CALL-STARTS (stops w) (rows w CALLS CALL-WORDS) && starting w TRANSFER-STARTS (stops w) (rows w TRANSFERS TRANSFER-WORDS)
-    && starting w WALK-STARTS (stops w) (rows w WALKS WALK-WORDS) && starting w ROUTE-STOP-STARTS (routes w) (size w ROUTE-STOPS) && starting w ROUTE-TRIP-STARTS (routes w) (size w ROUTE-TRIPS)
-    && starting w TIME-STARTS (trips w) (rows w TIMES TIME-WORDS) && starting w AREA-STARTS (areas w) (size w AREA-STOPS)
+    starting w CHILD-STARTS (stops w) (size w CHILDREN)
+    && starting w CALL-STARTS (stops w) (rows w CALLS CALL-WORDS)
+    && starting w TRANSFER-STARTS (stops w) (rows w TRANSFERS TRANSFER-WORDS)
+    && starting w WALK-STARTS (stops w) (rows w WALKS WALK-WORDS)
+    && starting w ROUTE-STOP-STARTS (routes w) (size w ROUTE-STOPS)
+    && starting w ROUTE-TRIP-STARTS (routes w) (size w ROUTE-TRIPS)
+    && starting w TIME-STARTS (trips w) (rows w TIMES TIME-WORDS)
+    && starting w AREA-STARTS (areas w) (size w AREA-STOPS)
 
 -- no "route without a stop"; "128 positions in a route"
 unfoldable pub positioned : List ℕ → Bool
-positioned w = all (λ r. leb 1 (count w ROUTE-STOP-STARTS r) && leb (count w ROUTE-STOP-STARTS r) 128) 0 (routes w)
+positioned w = all (λ r. leb 1 (count w ROUTE-STOP-STARTS r) && leb (count w ROUTE-STOP-STARTS r) MOST-POSITIONS) 0 (routes w)
 
 unfoldable pub laid : List ℕ → Bool
 laid w = headed w && sized w && limited w && started w && positioned w
@@ -77,14 +89,14 @@ pub record Laid (w : List ℕ) : Type 0 where
   pub transfers : size w TRANSFERS % TRANSFER-WORDS ≡ 0
   pub walks : size w WALKS % WALK-WORDS ≡ 0
   pub times : size w TIMES % TIME-WORDS ≡ 0
-  pub stops-limit : stops w ≤ 4_096
-  pub routes-limit : routes w ≤ 1_024
-  pub trips-limit : trips w ≤ 16_384
-  pub times-limit : rows w TIMES TIME-WORDS ≤ 262_144
-  pub transfers-limit : rows w TRANSFERS TRANSFER-WORDS ≤ 16_384
-  pub walks-limit : rows w WALKS WALK-WORDS ≤ 32_768
-  pub areas-limit : areas w ≤ 1_024
-  pub entries-limit : size w AREA-STOPS ≤ 16_384
+  pub stops-limit : stops w ≤ MOST-STOPS
+  pub routes-limit : routes w ≤ MOST-ROUTES
+  pub trips-limit : trips w ≤ MOST-TRIPS
+  pub times-limit : rows w TIMES TIME-WORDS ≤ MOST-STOP-TIMES
+  pub transfers-limit : rows w TRANSFERS TRANSFER-WORDS ≤ MOST-TRANSFERS
+  pub walks-limit : rows w WALKS WALK-WORDS ≤ MOST-WALKS
+  pub areas-limit : areas w ≤ MOST-AREAS
+  pub entries-limit : size w AREA-STOPS ≤ MOST-AREA-ENTRIES
   pub child-starts : Starts w CHILD-STARTS (stops w) (size w CHILDREN)
   pub call-starts : Starts w CALL-STARTS (stops w) (rows w CALLS CALL-WORDS)
   pub transfer-starts : Starts w TRANSFER-STARTS (stops w) (rows w TRANSFERS TRANSFER-WORDS)
@@ -94,4 +106,4 @@ pub record Laid (w : List ℕ) : Type 0 where
   pub time-starts : Starts w TIME-STARTS (trips w) (rows w TIMES TIME-WORDS)
   pub area-starts : Starts w AREA-STARTS (areas w) (size w AREA-STOPS)
   pub some-stop : (r : ℕ) → r < routes w → 1 ≤ count w ROUTE-STOP-STARTS r
-  pub positions-limit : (r : ℕ) → r < routes w → count w ROUTE-STOP-STARTS r ≤ 128
+  pub positions-limit : (r : ℕ) → r < routes w → count w ROUTE-STOP-STARTS r ≤ MOST-POSITIONS

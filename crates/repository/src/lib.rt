@@ -1,5 +1,6 @@
 // Readers of the flat tables. Only this crate knows where a word stands; the readers say what it is in the network
 // that the words hold.
+pub mod limits; // limits.rt: the limits in numbers
 pub mod sections; // sections.rt: the layout in numbers
 pub mod routes; // routes.rt: the stops and the trips of a route
 pub mod times; // times.rt: the moments of a trip

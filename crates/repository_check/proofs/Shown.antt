@@ -14,6 +14,7 @@ use Rattle.base.specs.All.{all, all-at}
 use Rattle.shared.specs.Walk.{stretch, Stretch}
 use Rattle.model.specs.Moments.{MAX}
 use Rattle.model.specs.Tables.{Net}
+use Rattle.model.specs.Limits.{LAST-MOMENT, LONGEST-SPAN}
 use Rattle.repository.specs.Sections.{rows, TRANSFERS, WALKS, TRANSFER-WORDS, WALK-WORDS, transferStated}
 use Rattle.repository.specs.Sections.{transferMetres}
 use Rattle.repository.specs.Checked.{timely, timed, behind, ordered, measured}
@@ -37,7 +38,7 @@ module _ (n : Net) where
     abbrev timelyTests : List Bool
     timelyTests =
         let v = n .tripAt r i in
-        leb 1 (n .arrival v p) ∷ leb (n .arrival v p) (n .departure v p) ∷ leb (n .departure v p) 1_000_000
+        leb 1 (n .arrival v p) ∷ leb (n .arrival v p) (n .departure v p) ∷ leb (n .departure v p) LAST-MOMENT
         ∷ (leb (n .positions r) (p + 1) || leb (n .departure v p) (n .arrival v (p + 1))) ∷ []
 
     timely-at : timely n r p i ≡ true → (k : ℕ) → getD timelyTests k true ≡ true
@@ -86,7 +87,7 @@ module _ (n : Net) where
           rw (
             le-leb 1 (n .arrival v p) (h .from-one r i p gr gi gp),
             le-leb (n .arrival v p) (n .departure v p) (h .stays r i p gr gi gp),
-            le-leb (n .departure v p) 1_000_000 (h .to-million r i p gr gi gp),
+            le-leb (n .departure v p) LAST-MOMENT (h .to-million r i p gr gi gp),
             next r p i gr gi,
           )
 
@@ -152,16 +153,16 @@ module _ (w : List ℕ) where
     walks = λ j g. all-at (walkFit w) 0 (rows w WALKS WALK-WORDS) (measured-at e 1) j (omega arith) g;
   }
     where
-      spans : (j : ℕ) → j < rows w TRANSFERS TRANSFER-WORDS → (transferStated w j ≡ MAX) ⊎ (transferStated w j ≤ 86_400)
+      spans : (j : ℕ) → j < rows w TRANSFERS TRANSFER-WORDS → (transferStated w j ≡ MAX) ⊎ (transferStated w j ≤ LONGEST-SPAN)
       spans j g =
           let span = transferStated w j in
-          shown-either {a = eqb span MAX} {b = leb span 86_400} (eqb-true span MAX) (leb-true span 86_400)
-          (and-left (eqb span MAX || leb span 86_400) (stretch (transferMetres w j)) (transfer-at e j g))
+          shown-either {a = eqb span MAX} {b = leb span LONGEST-SPAN} (eqb-true span MAX) (leb-true span LONGEST-SPAN)
+          (and-left (eqb span MAX || leb span LONGEST-SPAN) (stretch (transferMetres w j)) (transfer-at e j g))
 
       transfers : (j : ℕ) → j < rows w TRANSFERS TRANSFER-WORDS → Stretch (transferMetres w j)
       transfers j g =
           let span = transferStated w j in
-          and-right (eqb span MAX || leb span 86_400) (stretch (transferMetres w j)) (transfer-at e j g)
+          and-right (eqb span MAX || leb span LONGEST-SPAN) (stretch (transferMetres w j)) (transfer-at e j g)
 
   pub measured-so : Measured w → measured w ≡ true
   unfolding transferFit walkFit
@@ -175,6 +176,6 @@ module _ (w : List ℕ) where
       fits : (j : ℕ) → 0 ≤ j → j < rows w TRANSFERS TRANSFER-WORDS → transferFit w j ≡ true
       fits j _ g =
           let span = transferStated w j in
-          let spans : eqb span MAX || leb span 86_400 ≡ true =
-          either-so (eq-eqb span MAX) (le-leb span 86_400) (h .spans j g) in
+          let spans : eqb span MAX || leb span LONGEST-SPAN ≡ true =
+          either-so (eq-eqb span MAX) (le-leb span LONGEST-SPAN) (h .spans j g) in
           rw (spans, h .transfers j g)

@@ -12,6 +12,7 @@ use Rattle.base.specs.All.{all}
 use Rattle.shared.specs.Walk.{stretch}
 use Rattle.model.specs.Moments.{MAX}
 use Rattle.model.specs.Tables.{Net}
+use Rattle.model.specs.Limits.{LAST-MOMENT, LONGEST-SPAN}
 use Rattle.repository.specs.Sections.{size, sec, TRANSFERS, WALKS, TIME-STARTS, TIMES, TRANSFER-WORDS, WALK-WORDS}
 use Rattle.repository.specs.Sections.{TIME-WORDS, transferStated, transferBits, walkBits, arrivalIn, metres}
 use Rattle.repository.specs.NetOf.{netOf}
@@ -38,14 +39,14 @@ module _ (w : List ℕ) (r p i : ℕ) {j : ℕ} (ej : j ≡ sec w TIME-STARTS (n
   module _ {a d end : ℕ} (ea : a ≡ sec w TIMES (j * TIME-WORDS)) (ed : d ≡ sec w TIMES (j * TIME-WORDS + 1)) (ee : end ≡ netOf w .positions r)
     where
       pub timely-next : {b : ℕ} → p + 1 < end → b ≡ arrivalIn w j 1
-          → leb 1 a && leb a d && leb d 1_000_000 && leb d b ≡ timely (netOf w) r p i
+          → leb 1 a && leb a d && leb d LAST-MOMENT && leb d b ≡ timely (netOf w) r p i
       unfolding timely
       timely-next g eb = rw (← ee, lt-leb end (p + 1) g, ← arrival-is ea, ← departure-is ed, ← next-is eb)
 
-      pub timely-last : end ≤ p + 1 → leb 1 a && leb a d && leb d 1_000_000 ≡ timely (netOf w) r p i
+      pub timely-last : end ≤ p + 1 → leb 1 a && leb a d && leb d LAST-MOMENT ≡ timely (netOf w) r p i
       unfolding timely
       timely-last g =
-          let stays = leb 1 a && leb a d && leb d 1_000_000 in
+          let stays = leb 1 a && leb a d && leb d LAST-MOMENT in
           rw (← ee, le-leb end (p + 1) g, ← arrival-is ea, ← departure-is ed, and-true stays)
 
 -- the moment of the trip before, and 0 before the first
@@ -112,7 +113,7 @@ module _ (w : List ℕ) (j : ℕ) {x : ℕ} {b : Bool} where
   walk-fit-is e f = rw e at f
 
   pub transfer-fit-is : {y : ℕ} → y ≡ transferStated w j → x ≡ transferBits w j → b ≡ stretch (metres x)
-      → (eqb y MAX || leb y 86_400) && b ≡ transferFit w j
+      → (eqb y MAX || leb y LONGEST-SPAN) && b ≡ transferFit w j
   unfolding transferFit
   transfer-fit-is d e f = rw (f, d, e)
 

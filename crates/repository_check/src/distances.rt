@@ -6,6 +6,7 @@ ghost use Rattle.repository.specs.Sections.{rows, TRANSFERS, WALKS, TRANSFER-WO
 ghost use Rattle.repository.specs.Laid.{Laid};
 ghost use Rattle.repository.specs.Checked.{measured};
 ghost use Rattle.repository_check.specs.Distances.{transferFit, walkFit};
+use repository::limits;
 use repository::sections;
 
 fn transfer_ok(tables: &[u32], j: usize) -> bool
@@ -23,7 +24,7 @@ fn transfer_ok(tables: &[u32], j: usize) -> bool
         sections::TRANSFERS,
         j * sections::TRANSFER_WORDS + sections::TRANSFER_METRES,
     );
-    ((span == 4_294_967_295) | (span <= 86_400)) & shared::distance_ok(bits)
+    ((span == repository::MAX) | (span <= limits::LONGEST_SPAN)) & shared::distance_ok(bits)
 }
 
 fn walk_ok(tables: &[u32], j: usize) -> bool

@@ -8,6 +8,7 @@ ghost use Rattle.repository.specs.Laid.{Laid};
 ghost use Rattle.repository.specs.Accepted.{Listed};
 ghost use Rattle.repository.specs.Checked.{timely, timed, ordered};
 ghost use Rattle.repository_check.specs.Stands.{Stands};
+use repository::limits;
 use repository::sections;
 
 // When a trip arrives at a position, and when it departs from there.
@@ -85,7 +86,7 @@ fn time_ok(tables: &[u32], r: usize, p: usize, i: usize, end: usize) -> bool
         sections::TIMES,
         j * sections::TIME_WORDS + sections::DEPARTURE,
     );
-    let stays = (1 <= arrival) & (arrival <= departure) & (departure <= 1_000_000);
+    let stays = (1 <= arrival) & (arrival <= departure) & (departure <= limits::LAST_MOMENT);
     if p + 1 < end {
         let next = repository::word(tables, sections::TIMES, (j + 1) * sections::TIME_WORDS);
         return stays & (departure <= next);

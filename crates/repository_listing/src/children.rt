@@ -51,7 +51,7 @@ fn of_station_ok(tables: &[u32], marks: &[u64], s: u32) -> bool
     requires { ⌜ s < stops (now tables) ⌝ }
     ensures { λ ok. ⌜ ok ≡ ofStation (now (tables .entry)) s ⌝ }
 {
-    if item(tables, sections::STATIONS, s as usize) == 0xFFFF_FFFF {
+    if item(tables, sections::STATIONS, s as usize) == repository::MAX {
         return true;
     }
     marks::is_marked(marks, s as usize)

@@ -30,7 +30,7 @@ fn station_ok(tables: &[u32], s: u32) -> bool
     ensures { λ ok. ⌜ ok ≡ station (now (tables .entry)) s ⌝ }
 {
     let p = item(tables, sections::STATIONS, s as usize);
-    if p == 0xFFFF_FFFF {
+    if p == repository::MAX {
         return true;
     }
     p < size_of(tables, sections::STOP_LIST)

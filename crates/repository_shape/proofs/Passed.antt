@@ -6,6 +6,8 @@ use mathlib.Core.List.{List}
 use lib.Dec.{leb}
 use lib.ListN.{length}
 use borrow.Author.Tests.{le-leb, eq-eqb}
+use Rattle.model.specs.Limits.{MOST-STOPS, MOST-ROUTES, MOST-POSITIONS, MOST-TRIPS, MOST-STOP-TIMES}
+use Rattle.model.specs.Limits.{MOST-TRANSFERS, MOST-WALKS, MOST-AREAS, MOST-AREA-ENTRIES}
 use Rattle.repository.specs.Sections.{start, size, sec, stops, routes, trips, areas, rows, STOP-LIST, STATIONS}
 use Rattle.repository.specs.Sections.{CHILD-STARTS, CHILDREN, CALL-STARTS, CALLS, SERVED, TRANSFER-STARTS, TRANSFERS}
 use Rattle.repository.specs.Sections.{WALK-STARTS, WALKS, ROUTE-STOP-STARTS, ROUTE-STOPS, ROUTE-TRIP-STARTS}
@@ -62,14 +64,14 @@ module _ {w : List ℕ} (h : Laid w) where
   unfolding limited
   limited-so =
       rw (
-        le-leb (stops w) 4_096 (h .stops-limit),
-        le-leb (routes w) 1_024 (h .routes-limit),
-        le-leb (trips w) 16_384 (h .trips-limit),
-        le-leb (rows w TIMES TIME-WORDS) 262_144 (h .times-limit),
-        le-leb (rows w TRANSFERS TRANSFER-WORDS) 16_384 (h .transfers-limit),
-        le-leb (rows w WALKS WALK-WORDS) 32_768 (h .walks-limit),
-        le-leb (areas w) 1_024 (h .areas-limit),
-        le-leb (size w AREA-STOPS) 16_384 (h .entries-limit),
+        le-leb (stops w) MOST-STOPS (h .stops-limit),
+        le-leb (routes w) MOST-ROUTES (h .routes-limit),
+        le-leb (trips w) MOST-TRIPS (h .trips-limit),
+        le-leb (rows w TIMES TIME-WORDS) MOST-STOP-TIMES (h .times-limit),
+        le-leb (rows w TRANSFERS TRANSFER-WORDS) MOST-TRANSFERS (h .transfers-limit),
+        le-leb (rows w WALKS WALK-WORDS) MOST-WALKS (h .walks-limit),
+        le-leb (areas w) MOST-AREAS (h .areas-limit),
+        le-leb (size w AREA-STOPS) MOST-AREA-ENTRIES (h .entries-limit),
       )
 
   started-so : started w ≡ true
@@ -90,7 +92,7 @@ module _ {w : List ℕ} (h : Laid w) where
   unfolding positioned routeFits
   positioned-so =
       all-so (routeFits w) 0 (routes w)
-      (λ r a b. rw (le-leb 1 (count w ROUTE-STOP-STARTS r) (h .some-stop r b), le-leb (count w ROUTE-STOP-STARTS r) 128 (h .positions-limit r b)))
+      (λ r a b. rw (le-leb 1 (count w ROUTE-STOP-STARTS r) (h .some-stop r b), le-leb (count w ROUTE-STOP-STARTS r) MOST-POSITIONS (h .positions-limit r b)))
 
   pub laid-so : laid w ≡ true
   unfolding laid

@@ -8,6 +8,8 @@ use lib.Dec.{leb, eqb}
 use lib.ListN.{length, getD}
 use borrow.Author.Tests.{leb-true, eqb-true}
 use Rattle.base.specs.All.{all, all-at}
+use Rattle.model.specs.Limits.{MOST-STOPS, MOST-ROUTES, MOST-POSITIONS, MOST-TRIPS, MOST-STOP-TIMES}
+use Rattle.model.specs.Limits.{MOST-TRANSFERS, MOST-WALKS, MOST-AREAS, MOST-AREA-ENTRIES}
 use Rattle.repository.specs.Sections.{start, size, sec, stops, routes, trips, areas, rows, STOP-LIST, STATIONS}
 use Rattle.repository.specs.Sections.{CHILD-STARTS, CHILDREN, CALL-STARTS, CALLS, SERVED, TRANSFER-STARTS, TRANSFERS}
 use Rattle.repository.specs.Sections.{WALK-STARTS, WALKS, ROUTE-STOP-STARTS, ROUTE-STOPS, ROUTE-TRIP-STARTS}
@@ -34,8 +36,8 @@ module _ (w : List ℕ) where
 
   abbrev limitTests : List Bool
   limitTests =
-      leb (stops w) 4_096 ∷ leb (routes w) 1_024 ∷ leb (trips w) 16_384 ∷ leb (rows w TIMES TIME-WORDS) 262_144
-      ∷ leb (rows w TRANSFERS TRANSFER-WORDS) 16_384 ∷ leb (rows w WALKS WALK-WORDS) 32_768 ∷ leb (areas w) 1_024 ∷ leb (size w AREA-STOPS) 16_384 ∷ []
+      leb (stops w) MOST-STOPS ∷ leb (routes w) MOST-ROUTES ∷ leb (trips w) MOST-TRIPS ∷ leb (rows w TIMES TIME-WORDS) MOST-STOP-TIMES
+      ∷ leb (rows w TRANSFERS TRANSFER-WORDS) MOST-TRANSFERS ∷ leb (rows w WALKS WALK-WORDS) MOST-WALKS ∷ leb (areas w) MOST-AREAS ∷ leb (size w AREA-STOPS) MOST-AREA-ENTRIES ∷ []
 
   abbrev startTests : List Bool
   startTests =
@@ -68,11 +70,11 @@ module _ (w : List ℕ) where
   rising-at e k g = leb-true _ _ (all-at (λ k. leb (start w k) (start w (k + 1))) 0 SECTIONS (headed-at e 3) k (omega arith) g)
 
   positioned-at : positioned w ≡ true → (r : ℕ) → r < routes w → (i : ℕ)
-      → getD (leb 1 (count w ROUTE-STOP-STARTS r) ∷ leb (count w ROUTE-STOP-STARTS r) 128 ∷ []) i true ≡ true
+      → getD (leb 1 (count w ROUTE-STOP-STARTS r) ∷ leb (count w ROUTE-STOP-STARTS r) MOST-POSITIONS ∷ []) i true ≡ true
   unfolding positioned routeFits
   positioned-at e r g =
       let fits = all-at (routeFits w) 0 (routes w) e r (omega arith) g in
-      joined-at true (leb 1 (count w ROUTE-STOP-STARTS r) ∷ leb (count w ROUTE-STOP-STARTS r) 128 ∷ []) fits
+      joined-at true (leb 1 (count w ROUTE-STOP-STARTS r) ∷ leb (count w ROUTE-STOP-STARTS r) MOST-POSITIONS ∷ []) fits
 
   -- a starts section
   module _ (k n m : ℕ) where

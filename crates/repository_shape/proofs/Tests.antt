@@ -8,6 +8,8 @@ use lib.Dec.{leb, eqb}
 use lib.ListN.{length, getD}
 use borrow.Author.Tests.{le-leb, lt-leb}
 use Rattle.base.specs.All.{every, all}
+use Rattle.model.specs.Limits.{MOST-STOPS, MOST-ROUTES, MOST-POSITIONS, MOST-TRIPS, MOST-STOP-TIMES}
+use Rattle.model.specs.Limits.{MOST-TRANSFERS, MOST-WALKS, MOST-AREAS, MOST-AREA-ENTRIES}
 use Rattle.repository.specs.Sections.{start, size, sec, STOP-LIST, STATIONS, CHILD-STARTS, CHILDREN, CALL-STARTS}
 use Rattle.repository.specs.Sections.{CALLS, SERVED, TRANSFER-STARTS, TRANSFERS, WALK-STARTS, WALKS, ROUTE-STOP-STARTS}
 use Rattle.repository.specs.Sections.{ROUTE-STOPS, ROUTE-TRIP-STARTS, ROUTE-TRIPS, TIME-STARTS, TIMES, AREA-STARTS}
@@ -56,12 +58,12 @@ sized-is w eb er e13 e15 e14 et e17 e5 e8 e10 e16 = rw (eb, er, e13, e15, e14, e
 
 pub limited-is : (w : List ℕ) {s r t times transfers walks a named : ℕ} → s ≡ size w STOP-LIST → r ≡ size w ROUTE-STOP-STARTS - 1 → t ≡ size w TIME-STARTS - 1
     → times ≡ size w TIMES → transfers ≡ size w TRANSFERS → walks ≡ size w WALKS → a ≡ size w AREA-STARTS - 1 → named ≡ size w AREA-STOPS
-    → leb s 4_096 && leb r 1_024 && leb t 16_384 && leb (times / TIME-WORDS) 262_144 && leb (transfers / TRANSFER-WORDS) 16_384
-    && leb (walks / WALK-WORDS) 32_768 && leb a 1_024 && leb named 16_384 ≡ limited w
+    → leb s MOST-STOPS && leb r MOST-ROUTES && leb t MOST-TRIPS && leb (times / TIME-WORDS) MOST-STOP-TIMES && leb (transfers / TRANSFER-WORDS) MOST-TRANSFERS
+    && leb (walks / WALK-WORDS) MOST-WALKS && leb a MOST-AREAS && leb named MOST-AREA-ENTRIES ≡ limited w
 unfolding limited
 limited-is w es er et e16 e8 e10 ea e18 = rw (es, er, et, e16, e8, e10, ea, e18)
 
-pub route-fits-is : (w : List ℕ) (r : ℕ) {n : ℕ} → n ≡ count w ROUTE-STOP-STARTS r → leb 1 n && leb n 128 ≡ routeFits w r
+pub route-fits-is : (w : List ℕ) (r : ℕ) {n : ℕ} → n ≡ count w ROUTE-STOP-STARTS r → leb 1 n && leb n MOST-POSITIONS ≡ routeFits w r
 unfolding routeFits
 route-fits-is w r e = rw e
 

@@ -5,6 +5,7 @@ use mathlib.Core.Bool.{Bool, _&&_}
 use mathlib.Core.List.{List}
 use lib.Dec.{leb, eqb}
 use lib.ListN.{length, getD}
+use Rattle.model.specs.Limits.{MOST-POSITIONS}
 use Rattle.repository.specs.Sections.{start, size, stops, routes, trips, areas, STATIONS, CHILD-STARTS, CALL-STARTS}
 use Rattle.repository.specs.Sections.{SERVED, TRANSFER-STARTS, WALK-STARTS, ROUTE-STOP-STARTS, ROUTE-TRIP-STARTS}
 use Rattle.repository.specs.Sections.{TIME-STARTS, AREA-STARTS, SECTIONS, HEADER}
@@ -33,10 +34,10 @@ noFall w o i = leb (getD w (o + i) 0) (getD w (o + (i + 1)) 0)
 
 -- a route has a stop, and not more positions than the limit
 unfoldable pub routeFits : List ℕ → ℕ → Bool
-routeFits w r = leb 1 (count w ROUTE-STOP-STARTS r) && leb (count w ROUTE-STOP-STARTS r) 128
+routeFits w r = leb 1 (count w ROUTE-STOP-STARTS r) && leb (count w ROUTE-STOP-STARTS r) MOST-POSITIONS
 
 -- the part of `sized` that speaks of stops
 unfoldable pub stopSized : List ℕ → Bool
 stopSized w =
-    eqb (size w STATIONS) (stops w) && eqb (size w CHILD-STARTS) (stops w + 1) && eqb (size w CALL-STARTS) (stops w + 1) && eqb (size w SERVED) (stops w)
-    && eqb (size w TRANSFER-STARTS) (stops w + 1) && eqb (size w WALK-STARTS) (stops w + 1)
+    eqb (size w STATIONS) (stops w) && eqb (size w CHILD-STARTS) (stops w + 1) && eqb (size w CALL-STARTS) (stops w + 1)
+    && eqb (size w SERVED) (stops w) && eqb (size w TRANSFER-STARTS) (stops w + 1) && eqb (size w WALK-STARTS) (stops w + 1)

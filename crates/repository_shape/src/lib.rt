@@ -9,6 +9,7 @@ ghost use Rattle.repository.specs.Sections.{size, ROUTE-STOP-STARTS, SECTIONS};
 ghost use Rattle.repository.specs.NetOf.{count};
 ghost use Rattle.repository.specs.Laid.{headed, sized, limited, starting, started, positioned, laid};
 ghost use Rattle.repository_shape.specs.Shape.{Headed, Roomy, noFall, routeFits, stopSized};
+use repository::limits;
 use repository::sections;
 
 // How many words section k has.
@@ -104,14 +105,15 @@ fn limits_ok(tables: &[u32]) -> bool
     requires { ⌜ Headed (now tables) ⌝ }
     ensures { λ r. ⌜ r ≡ limited (now (tables .entry)) ⌝ }
 {
-    (size_of(tables, sections::STOP_LIST) <= 4_096)
-        & (entries(tables, sections::ROUTE_STOP_STARTS) <= 1_024)
-        & (entries(tables, sections::TIME_STARTS) <= 16_384)
-        & (size_of(tables, sections::TIMES) / sections::TIME_WORDS <= 262_144)
-        & (size_of(tables, sections::TRANSFERS) / sections::TRANSFER_WORDS <= 16_384)
-        & (size_of(tables, sections::WALKS) / sections::WALK_WORDS <= 32_768)
-        & (entries(tables, sections::AREA_STARTS) <= 1_024)
-        & (size_of(tables, sections::AREA_STOPS) <= 16_384)
+    (size_of(tables, sections::STOP_LIST) <= limits::MOST_STOPS)
+        & (entries(tables, sections::ROUTE_STOP_STARTS) <= limits::MOST_ROUTES)
+        & (entries(tables, sections::TIME_STARTS) <= limits::MOST_TRIPS)
+        & (size_of(tables, sections::TIMES) / sections::TIME_WORDS <= limits::MOST_STOP_TIMES)
+        & (size_of(tables, sections::TRANSFERS) / sections::TRANSFER_WORDS
+            <= limits::MOST_TRANSFERS)
+        & (size_of(tables, sections::WALKS) / sections::WALK_WORDS <= limits::MOST_WALKS)
+        & (entries(tables, sections::AREA_STARTS) <= limits::MOST_AREAS)
+        & (size_of(tables, sections::AREA_STOPS) <= limits::MOST_AREA_ENTRIES)
 }
 
 // Whether section k is a starts section of n entries, for the list behind it, whose rows have `wide` words.
@@ -176,7 +178,7 @@ fn route_ok(tables: &[u32], r: usize) -> bool
     ensures { λ ok. ⌜ ok ≡ routeFits (now (tables .entry)) r ⌝ }
 {
     let n = count_of(tables, sections::ROUTE_STOP_STARTS, r);
-    (1 <= n) & (n <= 128)
+    (1 <= n) & (n <= limits::MOST_POSITIONS)
 }
 
 // Whether every route has a stop, and none too many positions.
