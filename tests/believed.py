@@ -14,7 +14,7 @@ SAYS = {
     "model": "document 01's search, answers, bytes and journeys",
     "raptor": "the contract of `solve`",
     "repository": "the tables: their layout, the network that they hold, the rules that they keep",
-    "repository_check": "the numbers 1 to 5",
+    "check_tables": "the numbers 1 to 5",
     "shared": "the seconds of every footpath",
 }
 USE = re.compile(r"^\s*(?:ghost )?(?:pub )?use ([^\s{;]+)\.\{([^}]*)\}", re.M)

@@ -122,15 +122,15 @@ def checked_says(new):
     """The check of the tables with another statement of its result."""
 
     def damage():
-        head = head_of("crates/repository_check/src/lib.rt", "check")
-        sub("crates/repository_check/src/lib.rt", head, re.sub(r"⌜ (r ≡ .*?) ⌝", lambda m: f"⌜ {new.replace('SAID', m.group(1))} ⌝", head))
+        head = head_of("crates/check_tables/src/lib.rt", "check")
+        sub("crates/check_tables/src/lib.rt", head, re.sub(r"⌜ (r ≡ .*?) ⌝", lambda m: f"⌜ {new.replace('SAID', m.group(1))} ⌝", head))
 
     return damage
 
 
 def nothing_of_the_result():
-    head = head_of("crates/repository_check/src/lib.rt", "check")
-    sub("crates/repository_check/src/lib.rt", head, re.sub(r"λ r\. ⌜ r ≡ .*? ⌝", "λ _. ⌜ 0 ≡ 0 ⌝", head))
+    head = head_of("crates/check_tables/src/lib.rt", "check")
+    sub("crates/check_tables/src/lib.rt", head, re.sub(r"λ r\. ⌜ r ≡ .*? ⌝", "λ _. ⌜ 0 ≡ 0 ⌝", head))
 
 
 def sentence_and_row_gone():
@@ -191,10 +191,10 @@ MUTATIONS = [
         for where in ("asking::lib", "print::lib", "lines::lib", "replay::probe", "kiosk::moment")
     ),
     ("a slice that may be written, and nothing said of it", dropped_clause, True, FUNCTIONS, "kiosk_read does not say what it leaves in told"),
-    ("a result of which only a bound is said", checked_says("r ≤ 5"), True, FUNCTIONS, "repository_check::check leaves open its result"),
-    ("a result that is said only on a condition", checked_says("r ≡ 0 → SAID"), True, FUNCTIONS, "repository_check::check leaves open its result"),
-    ("a result that is said to be itself", checked_says("r ≡ r"), True, FUNCTIONS, "repository_check::check leaves open its result"),
-    ("a result of which nothing is said", nothing_of_the_result, True, FUNCTIONS, "repository_check::check does not say its result"),
+    ("a result of which only a bound is said", checked_says("r ≤ 5"), True, FUNCTIONS, "check_tables::check leaves open its result"),
+    ("a result that is said only on a condition", checked_says("r ≡ 0 → SAID"), True, FUNCTIONS, "check_tables::check leaves open its result"),
+    ("a result that is said to be itself", checked_says("r ≡ r"), True, FUNCTIONS, "check_tables::check leaves open its result"),
+    ("a result of which nothing is said", nothing_of_the_result, True, FUNCTIONS, "check_tables::check does not say its result"),
     ("an exception that has an equation", listed("LESS", "shared::time_to_walk", "less"), True, FUNCTIONS, "take it off the list"),
     ("an exception that is said to print and does not", listed("OUTSIDE", "shared::time_to_walk", "prints"), True, FUNCTIONS, "nothing that it calls does"),
     ("an exception that is no function", listed("OPEN", "shared::time_to_fly", "open"), True, FUNCTIONS, "there is no function shared::time_to_fly"),

@@ -10,7 +10,7 @@ fn number(words: &[u32], count: usize) -> u32 {
         return 1;
     }
     let first = 0;
-    repository_check::check(&words[first..count])
+    check_tables::check(&words[first..count])
 }
 
 // Prints the number of a line's tables, once the line has ended. The value of `net` is its last letter's.

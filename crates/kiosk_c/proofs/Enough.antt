@@ -10,7 +10,7 @@ use lib.ListN.{length}
 use Rattle.base.specs.Choice.{cond-elim}
 use Rattle.model.specs.declared.Query.{Query}
 use Rattle.repository.specs.Checked.{checkOf}
-use Rattle.repository_check.proofs.Whole.{check-most}
+use Rattle.check_tables.proofs.Whole.{check-most}
 use Rattle.raptor.proofs.Promises.{length-most, number-12, too-long-length}
 use Rattle.kiosk_c.specs.Face.{shortNumber, Faced}
 

@@ -10,7 +10,7 @@ use borrow.Author.Tests.{eq-eqb, ne-eqb, le-leb, lt-leb}
 use Rattle.repository.specs.Checked.{checkOf}
 use Rattle.repository.specs.NetOf.{netOf}
 use Rattle.repository.proofs.Ranges.{stops-few, routes-few}
-use Rattle.repository_check.proofs.Whole.{accepted-is}
+use Rattle.check_tables.proofs.Whole.{accepted-is}
 use Rattle.allocator.specs.Layout.{wordsRoom, marksRoom}
 use Rattle.raptor.specs.declared.Needed.{Needed}
 use Rattle.raptor.specs.declared.Needed.the-variants.{Lengths, Refused}

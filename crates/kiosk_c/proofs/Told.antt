@@ -12,7 +12,7 @@ use Rattle.model.specs.declared.Query.{Query}
 use Rattle.model.specs.Answer.{given}
 use Rattle.repository.specs.Accepted.{Accepted}
 use Rattle.repository.specs.Checked.{checkOf}
-use Rattle.repository_check.proofs.Whole.{accepted-is}
+use Rattle.check_tables.proofs.Whole.{accepted-is}
 use Rattle.raptor.specs.Solved.{Solved}
 use Rattle.raptor.proofs.Promises.{length-most}
 use Rattle.kiosk_words.specs.Words.{toldIn}

@@ -14,7 +14,7 @@ use Rattle.model.specs.Left.{written, journeyLeft}
 use Rattle.repository.specs.Accepted.{Accepted}
 use Rattle.repository.specs.NetOf.{netOf}
 use Rattle.repository.specs.Checked.{checkOf}
-use Rattle.repository_check.proofs.Whole.{accepted-is}
+use Rattle.check_tables.proofs.Whole.{accepted-is}
 use Rattle.raptor.specs.Solved.{roomFor, sized, Ended, WorkspaceLeft, Solved}
 use Rattle.raptor.specs.Searching.{Ran}
 

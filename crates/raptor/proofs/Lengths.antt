@@ -13,7 +13,7 @@ use Rattle.repository.specs.Accepted.{Accepted}
 use Rattle.repository.specs.NetOf.{netOf}
 use Rattle.repository.specs.Checked.{checkOf}
 use Rattle.repository.proofs.Ranges.{stops-few, routes-few}
-use Rattle.repository_check.proofs.Whole.{accepted-is}
+use Rattle.check_tables.proofs.Whole.{accepted-is}
 use Rattle.allocator.specs.Layout.{wordsRoom, marksRoom, Sized}
 use Rattle.allocator.proofs.Roomy.{sized-of}
 use Rattle.raptor.specs.declared.Needed.{Needed}

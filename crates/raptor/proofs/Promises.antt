@@ -45,7 +45,7 @@ use Rattle.repository.specs.NetOf.{netOf}
 use Rattle.repository.specs.Checked.{checkOf}
 use Rattle.repository.proofs.Sound.{accepted-sound}
 use Rattle.repository.proofs.Narrow.{accepted-narrow}
-use Rattle.repository_check.proofs.Whole.{accepted-is, check-most}
+use Rattle.check_tables.proofs.Whole.{accepted-is, check-most}
 use Rattle.allocator.specs.Layout.{view}
 use Rattle.raptor.specs.Solved.{sized, holds, Ended, WorkspaceLeft, Solved}
 

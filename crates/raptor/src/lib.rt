@@ -15,7 +15,7 @@ use model::Query;
 pub fn check(tables: &[u32]) -> u32
     ensures { λ r. ⌜ r ≡ checkOf (now (tables .entry)) ⌝ }
 {
-    repository_check::check(tables)
+    check_tables::check(tables)
 }
 
 // How long each slice of the workspace is to be, or the number that the tables are refused with.

@@ -37,7 +37,7 @@ use Rattle.model.proofs.Examples.{net, no-route, no-trip, among, serving, N-wit
 use Rattle.model.proofs.Examples.{N as listedN}
 use Rattle.repository.specs.Sections.{size, sec}
 use Rattle.repository.specs.NetOf.{count, listOf, transferRow, walkRow, stationOf, netOf}
-use Rattle.repository_check.proofs.Examples.{N, N9}
+use Rattle.check_tables.proofs.Examples.{N, N9}
 use Rattle.allocator.specs.Layout.{wordsRoom, marksRoom}
 use Rattle.raptor.specs.Solved.{placesRoom, roomFor, sized}
 

@@ -23,8 +23,8 @@ use Rattle.repository.specs.NetOf.{netOf}
 use Rattle.repository.specs.Checked.{checkOf}
 use Rattle.repository.proofs.Sound.{accepted-sound}
 use Rattle.repository.proofs.Narrow.{accepted-narrow}
-use Rattle.repository_check.proofs.Examples.{N, N-accepted}
-use Rattle.repository_check.proofs.Whole.{accepted-is}
+use Rattle.check_tables.proofs.Examples.{N, N-accepted}
+use Rattle.check_tables.proofs.Whole.{accepted-is}
 use Rattle.allocator.specs.Layout.{view}
 use Rattle.raptor.specs.Solved.{sized, Solved}
 use Rattle.raptor.proofs.Promises.{journey-bytes, reads-back, departure-journey, any-order, any-order-journey, journey-moments, too-long-journey}

@@ -16,7 +16,7 @@ use Rattle.model.specs.Answer.{mayWalk}
 use Rattle.model.specs.Journey.{Arriving, BothWays}
 use Rattle.repository.specs.Sections.{size, sec}
 use Rattle.repository.specs.NetOf.{count, listOf, transferRow, walkRow, netOf}
-use Rattle.repository_check.proofs.Examples.{N9, N9-accepted}
+use Rattle.check_tables.proofs.Examples.{N9, N9-accepted}
 use Rattle.raptor.specs.Solved.{sized, Solved}
 use Rattle.raptor.proofs.Promises.{arrival-journey}
 use Rattle.witnesses.proofs.N1.{answered}

@@ -1,0 +1,20 @@
+-- `rows_of`: whole rows.
+use borrow.Author.Needs.{needs}
+use Rattle.check_calls.proofs.Entries.{rows-is}
+use Rattle.check_calls.proofs.words.rows_of.Statement.{statement}
+use Rattle.check_calls.proofs.words.rows_of.Tie as tie
+
+size-of-requires : tie.Need-size-of-requires
+size-of-requires c κs = search needs
+
+cast-n : tie.Need-cast-n
+cast-n c = search needs
+
+div-result : tie.Need-div-result
+div-result c = search needs
+
+returns : tie.Need-returns
+returns c = search rows-is
+
+pub rows-of-spec : {M : Type 1} → statement M
+rows-of-spec = tie.close (tie.spec size-of-requires cast-n div-result returns)

@@ -1,0 +1,3 @@
+-- What the contracts of `check_calls` cite beside the definitions of `repository`.
+pub mod Entry
+pub mod Reached

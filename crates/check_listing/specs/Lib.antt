@@ -1,0 +1,2 @@
+-- What the contracts of `check_listing` cite beside the definitions of `repository`.
+pub mod Fitting

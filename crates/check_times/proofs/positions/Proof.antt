@@ -1,0 +1,16 @@
+-- `positions`: the route's entry is in the section.
+use borrow.Author.Needs.{needs}
+use Rattle.repository.specs.NetOf.{netOf}
+use Rattle.check_times.proofs.Rooms.{stops-room}
+use Rattle.check_times.proofs.positions.Statement.{statement}
+use Rattle.check_times.proofs.positions.Tie as tie
+
+count-of-requires : tie.Need-count-of-requires
+count-of-requires c κs = (search needs, (search needs, search (needs, stops-room)))
+
+returns : tie.Need-returns
+unfolding netOf
+returns c = search needs
+
+pub positions-spec : {M : Type 1} → statement M
+positions-spec = tie.close (tie.spec count-of-requires returns)

@@ -1,3 +1,0 @@
--- What the contracts of `repository_calls` cite beside the definitions of `repository`.
-pub mod Entry
-pub mod Reached

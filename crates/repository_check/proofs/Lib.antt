@@ -1,7 +1,0 @@
--- Laws that belong to no one function.
-pub mod Rooms
-pub mod Walk
-pub mod Tests
-pub mod Shown
-pub mod Whole
-pub mod Examples

@@ -1,4 +1,0 @@
--- The definitions that the contracts of the check cite.
-pub mod Stands
-pub mod Distances
-pub mod Says
