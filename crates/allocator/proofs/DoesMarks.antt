@@ -14,7 +14,7 @@ use Rattle.allocator.specs.Parts.{withMark, withHeldMark, withMask}
 use Rattle.allocator.proofs.Sections.{Only, only-whole, sect-whole-put, sect-length, sect-before, sect-behind}
 use Rattle.allocator.proofs.Flagged.{mark-sect, only-mark, flags-more, spare-more, flags-none, spare-none}
 use Rattle.allocator.proofs.Changes.{change-mark, change-held-mark, change-mask}
-use Rattle.allocator.proofs.Does.{Kept, Does, marks-sized}
+use Rattle.allocator.proofs.Became.{Kept, Became, marks-sized}
 
 module _ (s r : ℕ) (w m : List ℕ) (z : Sized s r w m) where
   -- each section of the marks is as it was, or tidy again
@@ -46,7 +46,7 @@ module _ (s r : ℕ) (w m : List ℕ) (z : Sized s r w m) where
         let held = sect-before c (pages s) (pages s) (omega arith) (omega arith) in
         marks-kept (λ t. rw stops t) (λ t. rw held (t .held)) f
 
-  pub does-mark : (i : ℕ) → i < s → Does s r (λ x. withMark (set (x .labels .mark) i true) x) w m w (addMark m i)
+  pub does-mark : (i : ℕ) → i < s → Became s r (λ x. withMark (set (x .labels .mark) i true) x) w m w (addMark m i)
   unfolding view markOf
   does-mark i h =
       let x = sect 0 (pages s) m in
@@ -62,7 +62,7 @@ module _ (s r : ℕ) (w m : List ℕ) (z : Sized s r w m) where
       }
 
   pub does-mask : (i : ℕ) → i < r
-      → Does s r (λ x. withMask (set (x .mask) i true) x) w m w (addMark m (64 * (2 * pages s) + i))
+      → Became s r (λ x. withMask (set (x .mask) i true) x) w m w (addMark m (64 * (2 * pages s) + i))
   unfolding view maskOf
   does-mask i h =
       let q = 2 * pages s in
@@ -78,7 +78,7 @@ module _ (s r : ℕ) (w m : List ℕ) (z : Sized s r w m) where
         sized = marks-sized z (c .long);
       }
 
-  pub does-unmark : Does s r (withMark (replicate s false)) w m w (put 0 (replicate (pages s) 0) m)
+  pub does-unmark : Became s r (withMark (replicate s false)) w m w (put 0 (replicate (pages s) 0) m)
   unfolding markOf
   does-unmark =
       let xs : List ℕ = replicate (pages s) 0 in
@@ -92,7 +92,7 @@ module _ (s r : ℕ) (w m : List ℕ) (z : Sized s r w m) where
         sized = marks-sized z (c .long);
       }
 
-  pub does-unmask : Does s r (withMask (replicate r false)) w m w (put (2 * pages s) (replicate (pages r) 0) m)
+  pub does-unmask : Became s r (withMask (replicate r false)) w m w (put (2 * pages s) (replicate (pages r) 0) m)
   unfolding maskOf
   does-unmask =
       let q = 2 * pages s in
@@ -107,7 +107,7 @@ module _ (s r : ℕ) (w m : List ℕ) (z : Sized s r w m) where
         sized = marks-sized z (c .long);
       }
 
-  pub does-hold-marks : Does s r (λ x. withHeldMark (x .labels .mark) x) w m w (put (pages s) (sect 0 (pages s) m) m)
+  pub does-hold-marks : Became s r (λ x. withHeldMark (x .labels .mark) x) w m w (put (pages s) (sect 0 (pages s) m) m)
   unfolding view markOf heldMarkOf
   does-hold-marks =
       let p = pages s in

@@ -19,7 +19,7 @@ use Rattle.allocator.proofs.Sections.{Only, only-put, only-whole, sect-
 use Rattle.allocator.proofs.Tabulated.{tab-set}
 use Rattle.allocator.proofs.Rowed.{decode-encode, encoded-length}
 use Rattle.allocator.proofs.Changes.{change-parents}
-use Rattle.allocator.proofs.Does.{Does, words-sized}
+use Rattle.allocator.proofs.Became.{Became, words-sized}
 
 module _ (s r : ℕ) (w m : List ℕ) (z : Sized s r w m) (i : ℕ) (g : Leg) (inside : i < 15 * s) where
   -- the words with the row of g
@@ -80,7 +80,7 @@ module _ (s r : ℕ) (w m : List ℕ) (z : Sized s r w m) (i : ℕ) (g : Leg) (i
           let kept = row-old j h other in
           kept ∙ t .written j h ∙ ap (λ (x : List ℕ). encoded (decoded x)) (sym kept))
 
-  pub does-parent : Does s r (λ x. withParents (set (x .parents) i (some g)) x) w m
+  pub does-parent : Became s r (λ x. withParents (set (x .parents) i (some g)) x) w m
       (put (4 * s + r + i * 6) (legRow g) w) m
   unfolding view parentsOf encoded new old-rows new-rows
   does-parent = record {

@@ -10,7 +10,7 @@ use Rattle.allocator.specs.Layout.{Sized, prevOf, currOf, bestOf, heldOf
 use Rattle.allocator.specs.Parts.{withPrev, withCurr, withBest, withHeld, withActive}
 use Rattle.allocator.proofs.Sections.{Only, only-set, only-whole, sect-whole-put, set-sect, sect-behind}
 use Rattle.allocator.proofs.Changes.{change-prev, change-curr, change-best, change-held, change-active}
-use Rattle.allocator.proofs.Does.{Kept, Does, words-sized}
+use Rattle.allocator.proofs.Became.{Kept, Became, words-sized}
 
 module _ (s r : ℕ) (w m : List ℕ) (z : Sized s r w m) where
   -- a change before the parents keeps them tidy
@@ -21,7 +21,7 @@ module _ (s r : ℕ) (w m : List ℕ) (z : Sized s r w m) where
 
   -- ---- one element
   module _ (i v : ℕ) where
-    pub does-curr : i < s → Does s r (λ x. withCurr (set (x .labels .curr) i v) x) w m (set w (s + i) v) m
+    pub does-curr : i < s → Became s r (λ x. withCurr (set (x .labels .curr) i v) x) w m (set w (s + i) v) m
     unfolding view currOf
     does-curr h =
         let c = only-set s s w i v h in
@@ -31,7 +31,7 @@ module _ (s r : ℕ) (w m : List ℕ) (z : Sized s r w m) where
           sized = words-sized z (c .long);
         }
 
-    pub does-best : i < s → Does s r (λ x. withBest (set (x .labels .best) i v) x) w m (set w (2 * s + i) v) m
+    pub does-best : i < s → Became s r (λ x. withBest (set (x .labels .best) i v) x) w m (set w (2 * s + i) v) m
     unfolding view bestOf
     does-best h =
         let c = only-set (2 * s) s w i v h in
@@ -41,7 +41,7 @@ module _ (s r : ℕ) (w m : List ℕ) (z : Sized s r w m) where
           sized = words-sized z (c .long);
         }
 
-    pub does-active : i < r → Does s r (λ x. withActive (set (x .active) i v) x) w m (set w (4 * s + i) v) m
+    pub does-active : i < r → Became s r (λ x. withActive (set (x .active) i v) x) w m (set w (4 * s + i) v) m
     unfolding view activeOf
     does-active h =
         let c = only-set (4 * s) r w i v h in
@@ -53,7 +53,7 @@ module _ (s r : ℕ) (w m : List ℕ) (z : Sized s r w m) where
 
   -- ---- a whole section
   module _ (xs : List ℕ) where
-    pub does-prevs : length xs ≡ s → Does s r (withPrev xs) w m (put 0 xs w) m
+    pub does-prevs : length xs ≡ s → Became s r (withPrev xs) w m (put 0 xs w) m
     unfolding prevOf
     does-prevs l =
         let c = only-whole 0 s w xs l (omega arith) in
@@ -63,7 +63,7 @@ module _ (s r : ℕ) (w m : List ℕ) (z : Sized s r w m) where
           sized = words-sized z (c .long);
         }
 
-    pub does-currs : length xs ≡ s → Does s r (withCurr xs) w m (put s xs w) m
+    pub does-currs : length xs ≡ s → Became s r (withCurr xs) w m (put s xs w) m
     unfolding currOf
     does-currs l =
         let c = only-whole s s w xs l (omega arith) in
@@ -73,7 +73,7 @@ module _ (s r : ℕ) (w m : List ℕ) (z : Sized s r w m) where
           sized = words-sized z (c .long);
         }
 
-    pub does-helds : length xs ≡ s → Does s r (withHeld xs) w m (put (3 * s) xs w) m
+    pub does-helds : length xs ≡ s → Became s r (withHeld xs) w m (put (3 * s) xs w) m
     unfolding heldOf
     does-helds l =
         let c = only-whole (3 * s) s w xs l (omega arith) in
@@ -83,7 +83,7 @@ module _ (s r : ℕ) (w m : List ℕ) (z : Sized s r w m) where
           sized = words-sized z (c .long);
         }
 
-    pub does-actives : length xs ≡ r → Does s r (withActive xs) w m (put (4 * s) xs w) m
+    pub does-actives : length xs ≡ r → Became s r (withActive xs) w m (put (4 * s) xs w) m
     unfolding activeOf
     does-actives l =
         let c = only-whole (4 * s) r w xs l (omega arith) in

@@ -8,7 +8,7 @@ pub mod Rowed
 pub mod Flagged
 pub mod Read
 pub mod Changes
-pub mod Does
+pub mod Became
 pub mod DoesWords
 pub mod DoesMarks
 pub mod DoesParent

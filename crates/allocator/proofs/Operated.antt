@@ -18,32 +18,34 @@ use Rattle.model.specs.Work.{Work}
 use Rattle.allocator.specs.Sections.{sect, put}
 use Rattle.allocator.specs.Rows.{legRow}
 use Rattle.allocator.specs.Layout.{pages, Sized, currOf, bestOf, activeOf, view}
-use Rattle.allocator.specs.Tidy.{Tidy}
+use Rattle.allocator.specs.Does.{Usable, Does}
 use Rattle.allocator.specs.Parts.{withCurr, withBest, withMark, withHeld, withActive, withMask, withParents}
 use Rattle.allocator.specs.Operations.{blank, started, swapped, unmasked, refilled, chosenOf, withChosen, activated, unmarked, holding, stored, applied}
 use Rattle.allocator.proofs.Sections.{sect-length}
 use Rattle.allocator.proofs.Read.{row-in}
-use Rattle.allocator.proofs.Does.{Does, does-then}
+use Rattle.allocator.proofs.Became.{Became, does-then}
 use Rattle.allocator.proofs.DoesWords.{does-curr, does-best, does-active, does-prevs, does-currs, does-helds, does-actives}
 use Rattle.allocator.proofs.DoesMarks.{does-mark, does-mask, does-unmark, does-unmask, does-hold-marks}
 use Rattle.allocator.proofs.DoesParent.{does-parent}
 
 -- as a contract says it
-pub both : {s r : ℕ} (f : Work → Work) {w m v n : List ℕ} → Does s r f w m v n → Tidy s r w m
-    → (view s r v n ≡ f (view s r w m)) × Tidy s r v n
-both f d t = (d .is, record { known = λ u. d .kept .tidy (t .known u) })
+pub does : {s r : ℕ} (f : Work → Work) {w m v n : List ℕ} → Became s r f w m v n → Usable s r w m → Does s r f w m v n
+does f b u = record {
+  holds = b .is;
+  usable = record { sized = b .sized; tidy = record { known = λ x. b .kept .tidy (u .tidy .known x) } };
+}
 
 module _ (s r : ℕ) (w m : List ℕ) (z : Sized s r w m) where
   -- a change that is given by a value of the state is one of the state
-  turned : {f : Work → Work} {v n : List ℕ} (g : Work → Work) → f (view s r w m) ≡ g (view s r w m) → Does s r f w m v n
-      → Does s r g w m v n
+  turned : {f : Work → Work} {v n : List ℕ} (g : Work → Work) → f (view s r w m) ≡ g (view s r w m) → Became s r f w m v n
+      → Became s r g w m v n
   turned g e d = record { is = d .is ∙ e; kept = d .kept; sized = d .sized }
 
-  pub does-nothing : Does s r (λ x. x) w m w m
+  pub does-nothing : Became s r (λ x. x) w m w m
   does-nothing = record { is = refl; kept = record { tidy = λ t. t }; sized = z }
 
   pub does-start : {v n : List ℕ} (i t : ℕ) → i < s → v ≡ set w (s + i) t → n ≡ addMark m i
-      → Does s r (started i t) w m v n
+      → Became s r (started i t) w m v n
   unfolding started withCurr
   does-start i t h e f =
       let a = does-curr s r w m z i t h in
@@ -51,7 +53,7 @@ module _ (s r : ℕ) (w m : List ℕ) (z : Sized s r w m) where
       rw (e, f) (does-then _ _ a b)
 
   pub does-swap : {u v : List ℕ} → u ≡ put 0 (sect s s w) w → v ≡ put s (replicate (2 * s - s) 0) u
-      → Does s r (swapped s) w m v m
+      → Became s r (swapped s) w m v m
   unfolding swapped view currOf
   does-swap e f =
       let count : 2 * s - s ≡ s = omega arith in
@@ -59,12 +61,12 @@ module _ (s r : ℕ) (w m : List ℕ) (z : Sized s r w m) where
       let b = does-currs s r (put 0 (sect s s w) w) m (a .sized) (replicate s 0) (length-replicate s 0) in
       rw (f, e, count) (turned (swapped s) refl (does-then _ _ a b))
 
-  pub does-refill-not : {mode : Mode} (d : Direction) → mode ≡ Source → Does s r (refilled mode r d) w m w m
+  pub does-refill-not : {mode : Mode} (d : Direction) → mode ≡ Source → Became s r (refilled mode r d) w m w m
   unfolding refilled
   does-refill-not d e = rw e does-nothing
 
   pub does-refill : {mode : Mode} {v : List ℕ} (d : Direction) (x : ℕ) → mode ≡ Rescan → x ≡ blank d
-      → v ≡ put (4 * s) (replicate (4 * s + r - 4 * s) x) w → Does s r (refilled mode r d) w m v m
+      → v ≡ put (4 * s) (replicate (4 * s + r - 4 * s) x) w → Became s r (refilled mode r d) w m v m
   unfolding refilled
   does-refill d x e f g =
       let count : 4 * s + r - 4 * s ≡ r = omega arith in
@@ -72,21 +74,21 @@ module _ (s r : ℕ) (w m : List ℕ) (z : Sized s r w m) where
 
   pub does-clear-mask : {n : List ℕ} (p q : ℕ) → p ≡ pages s → q ≡ pages r
       → n ≡ put (2 * p) (replicate (2 * p + q - 2 * p) 0) m
-      → Does s r (unmasked r) w m w n
+      → Became s r (unmasked r) w m w n
   unfolding unmasked
   does-clear-mask p q a b e =
       let count : 2 * p + q - 2 * p ≡ q = omega arith in
       rw (e, count, a, b) (does-unmask s r w m z)
 
   pub does-clear-marks : {n : List ℕ} (p : ℕ) → p ≡ pages s → n ≡ put 0 (replicate (p - 0) 0) m
-      → Does s r (unmarked s) w m w n
+      → Became s r (unmarked s) w m w n
   unfolding unmarked
   does-clear-marks p a e =
       let count : p - 0 ≡ p = omega arith in
       rw (e, count, a) (does-unmark s r w m z)
 
   pub does-hold : {v n : List ℕ} (p : ℕ) → p ≡ pages s → v ≡ put (3 * s) (sect s s w) w → n ≡ put p (sect 0 p m) m
-      → Does s r holding w m v n
+      → Became s r holding w m v n
   unfolding holding view currOf withHeld
   does-hold p q e f =
       let a = does-helds s r w m z (sect s s w) (sect-length s s w (omega arith)) in
@@ -101,21 +103,21 @@ module _ (s r : ℕ) (w m : List ℕ) (z : Sized s r w m) where
     test c e = rw (← em, ← eb) e
 
     pub does-activate : {v n : List ℕ} (q : ℕ) → b ≡ true → i < r → q ≡ pages s → v ≡ set w (4 * s + i) p
-        → n ≡ addMark m (64 * (2 * q) + i) → Does s r (activated d i p) w m v n
+        → n ≡ addMark m (64 * (2 * q) + i) → Became s r (activated d i p) w m v n
     unfolding activated withChosen chosenOf choose1 withActive
     does-activate q t h eq e f =
         let one = does-active s r w m z i p h in
         let two = does-mask s r (set w (4 * s + i) p) m (one .sized) i h in
         rw (e, f, eq) (turned (activated d i p) (rw (test true t)) (does-then _ _ one two))
 
-    pub does-activate-not : b ≡ false → Does s r (activated d i p) w m w m
+    pub does-activate-not : b ≡ false → Became s r (activated d i p) w m w m
     unfolding activated withChosen chosenOf choose1 withMask withActive
     does-activate-not t = turned (activated d i p) (rw (test false t)) does-nothing
 
   -- ---- a moment, with its leg
   pub does-store : {v n : List ℕ} (i t k : ℕ) (g : Leg) (j : ℕ) → i < s → k < 15 → j ≡ 4 * s + r + (k * s + i) * 6
       → v ≡ put j (legRow g) (set (set w (s + i) t) (2 * s + i) t) → n ≡ addMark m i
-      → Does s r (stored (k * s) i t g) w m v n
+      → Became s r (stored (k * s) i t g) w m v n
   unfolding stored withCurr withBest withMark withParents
   does-store i t k g j h l ej e f =
       let a = does-curr s r w m z i t h in

@@ -9,7 +9,7 @@ use Rattle.model.specs.Work.{Work}
 use Rattle.allocator.specs.Layout.{Sized, view}
 use Rattle.allocator.specs.Tidy.{Tidy}
 use Rattle.allocator.specs.Operations.{unmarked}
-use Rattle.allocator.proofs.Does.{words-sized, marks-sized}
+use Rattle.allocator.proofs.Became.{words-sized, marks-sized}
 use Rattle.allocator.proofs.Same.{same-words}
 
 -- the slices w and m were lent, v and n are what they hold now: the state x

@@ -3,6 +3,7 @@ pub mod Sections
 pub mod Rows
 pub mod Layout
 pub mod Tidy
+pub mod Does
 pub mod Parts
 pub mod Operations
 pub mod Repeated

@@ -11,11 +11,12 @@ ghost use lib.ListN.{length, getD, set, replicate};
 ghost use Rattle.marks.specs.Marks.{firstOf};
 ghost use Rattle.model.specs.Choosing.{sooner};
 ghost use Rattle.model.specs.Lists.{anyOf};
-ghost use Rattle.model.specs.Moments.{better};
+ghost use Rattle.model.specs.Legs.{legOf};
+ghost use Rattle.model.specs.Moments.{better, ahead};
 ghost use Rattle.allocator.specs.Sections.{sect, put};
 ghost use Rattle.allocator.specs.Rows.{kindWord, tripWord, legRow, legIn, decoded, parentOf};
-ghost use Rattle.allocator.specs.Layout.{pages, wordsRoom, marksRoom, Words, Marks, Sized, view, prevOf, currOf, bestOf, heldOf, activeOf, parentsOf, markOf, heldMarkOf, maskOf};
-ghost use Rattle.allocator.specs.Tidy.{Tidy};
+ghost use Rattle.allocator.specs.Layout.{pages, wordsRoom, marksRoom, Words, Marks, Sized, prevOf, currOf, bestOf, heldOf, activeOf, parentsOf, markOf, heldMarkOf, maskOf};
+ghost use Rattle.allocator.specs.Does.{Usable, Does};
 ghost use Rattle.allocator.specs.Operations.{blank, cleared, started, swapped, unmasked, refilled, activated, unmarked, holding, stored, applied};
 ghost use Rattle.allocator.specs.Marked.{after};
 use marks::Next;
@@ -107,7 +108,7 @@ pub fn marks_room(n: u32, m: u32) -> usize
     2 * pages_of(n) + pages_of(m)
 }
 
-// ---- tests
+// ---- tests, and the leg of a proposal
 
 // Whether the moment t is strictly better than the best moment b. A moment 0 is none.
 pub fn is_better(d: Direction, t: Time, b: Time) -> bool
@@ -124,6 +125,38 @@ pub fn is_better(d: Direction, t: Time, b: Time) -> bool
             t.0 < b.0
         }
         Direction::Arrival => b.0 < t.0,
+    }
+}
+
+// Whether the moment t is better than what the target has seen; an arrival search has no such test.
+pub fn is_ahead(d: Direction, t: Time, target: Time) -> bool
+    ensures { λ r. ⌜ r ≡ ahead d (t .0) (target .0) ⌝ }
+{
+    match d {
+        Direction::Departure => is_better(d, t, target),
+        Direction::Arrival => true,
+    }
+}
+
+// The leg between stop s at x, which the search knew before, and the stop `to` at y: earlier first.
+pub fn leg_of(d: Direction, kind: LegType, s: u32, x: Time, to: u32, y: Time) -> Leg
+    ensures { λ g. ⌜ g ≡ legOf d kind s (x .0) to (y .0) ⌝ }
+{
+    match d {
+        Direction::Departure => Leg {
+            from: s,
+            to: to,
+            departure: x,
+            arrival: y,
+            kind: kind,
+        },
+        Direction::Arrival => Leg {
+            from: to,
+            to: s,
+            departure: y,
+            arrival: x,
+            kind: kind,
+        },
     }
 }
 
@@ -299,8 +332,8 @@ pub fn any_marked(marks: &[u64], n: u32, m: u32) -> bool
 // Every search begins with a new workspace, whatever was in it: no label, no mark, no parent.
 pub fn clear(words: &mut [u32], marks: &mut [u64], n: u32, m: u32, d: Direction)
     requires { ⌜ Sized n m (now words) (now marks) ⌝ }
-    ensures { λ _. ⌜ view n m (now (words .exit)) (now (marks .exit)) ≡ cleared n m d ⌝ }
-    ensures { λ _. ⌜ Tidy n m (now (words .exit)) (now (marks .exit)) ⌝ }
+    ensures { λ _. ⌜ Does n m (λ _. cleared n m d)
+        (now (words .entry)) (now (marks .entry)) (now (words .exit)) (now (marks .exit)) ⌝ }
 {
     let a = 4 * (n as usize);
     let b = a + m as usize;
@@ -315,12 +348,10 @@ pub fn clear(words: &mut [u32], marks: &mut [u64], n: u32, m: u32, d: Direction)
 
 // A start stop gets the query moment as current label and a mark. Its best moment stays absent.
 pub fn start(words: &mut [u32], marks: &mut [u64], n: u32, m: u32, s: u32, t: Time)
-    requires { ⌜ Sized n m (now words) (now marks) ⌝ }
-    requires { ⌜ Tidy n m (now words) (now marks) ⌝ }
+    requires { ⌜ Usable n m (now words) (now marks) ⌝ }
     requires { ⌜ s < n ⌝ }
-    ensures { λ _. ⌜ view n m (now (words .exit)) (now (marks .exit))
-        ≡ started s (t .0) (view n m (now (words .entry)) (now (marks .entry))) ⌝ }
-    ensures { λ _. ⌜ Tidy n m (now (words .exit)) (now (marks .exit)) ⌝ }
+    ensures { λ _. ⌜ Does n m (started s (t .0))
+        (now (words .entry)) (now (marks .entry)) (now (words .exit)) (now (marks .exit)) ⌝ }
 {
     let at = n as usize + s as usize;
     words[at] = t.0;
@@ -331,11 +362,9 @@ pub fn start(words: &mut [u32], marks: &mut [u64], n: u32, m: u32, s: u32, t: Ti
 
 // The current labels become the previous ones, and no stop has a current label.
 pub fn swap_labels(words: &mut [u32], marks: &mut [u64], n: u32, m: u32)
-    requires { ⌜ Sized n m (now words) (now marks) ⌝ }
-    requires { ⌜ Tidy n m (now words) (now marks) ⌝ }
-    ensures { λ _. ⌜ view n m (now (words .exit)) (now (marks .exit))
-        ≡ swapped n (view n m (now (words .entry)) (now (marks .entry))) ⌝ }
-    ensures { λ _. ⌜ Tidy n m (now (words .exit)) (now (marks .exit)) ⌝ }
+    requires { ⌜ Usable n m (now words) (now marks) ⌝ }
+    ensures { λ _. ⌜ Does n m (swapped n)
+        (now (words .entry)) (now (marks .entry)) (now (words .exit)) (now (marks .exit)) ⌝ }
 {
     let a = n as usize;
     let e = 2 * a;
@@ -345,11 +374,9 @@ pub fn swap_labels(words: &mut [u32], marks: &mut [u64], n: u32, m: u32)
 
 // Fills the routes' marks again, where the mode asks for it before every round.
 pub fn refill(words: &mut [u32], marks: &mut [u64], n: u32, m: u32, mode: Mode, d: Direction)
-    requires { ⌜ Sized n m (now words) (now marks) ⌝ }
-    requires { ⌜ Tidy n m (now words) (now marks) ⌝ }
-    ensures { λ _. ⌜ view n m (now (words .exit)) (now (marks .exit))
-        ≡ refilled mode m d (view n m (now (words .entry)) (now (marks .entry))) ⌝ }
-    ensures { λ _. ⌜ Tidy n m (now (words .exit)) (now (marks .exit)) ⌝ }
+    requires { ⌜ Usable n m (now words) (now marks) ⌝ }
+    ensures { λ _. ⌜ Does n m (refilled mode m d)
+        (now (words .entry)) (now (marks .entry)) (now (words .exit)) (now (marks .exit)) ⌝ }
 {
     let a = 4 * (n as usize);
     let e = a + m as usize;
@@ -361,11 +388,9 @@ pub fn refill(words: &mut [u32], marks: &mut [u64], n: u32, m: u32, mode: Mode, 
 
 // No route is to be scanned.
 pub fn clear_mask(words: &mut [u32], marks: &mut [u64], n: u32, m: u32)
-    requires { ⌜ Sized n m (now words) (now marks) ⌝ }
-    requires { ⌜ Tidy n m (now words) (now marks) ⌝ }
-    ensures { λ _. ⌜ view n m (now (words .exit)) (now (marks .exit))
-        ≡ unmasked m (view n m (now (words .entry)) (now (marks .entry))) ⌝ }
-    ensures { λ _. ⌜ Tidy n m (now (words .exit)) (now (marks .exit)) ⌝ }
+    requires { ⌜ Usable n m (now words) (now marks) ⌝ }
+    ensures { λ _. ⌜ Does n m (unmasked m)
+        (now (words .entry)) (now (marks .entry)) (now (words .exit)) (now (marks .exit)) ⌝ }
 {
     let a = 2 * pages_of(n);
     let e = a + pages_of(m);
@@ -381,11 +406,9 @@ pub fn begin_choosing(
     mode: Mode,
     d: Direction,
 )
-    requires { ⌜ Sized n m (now words) (now marks) ⌝ }
-    requires { ⌜ Tidy n m (now words) (now marks) ⌝ }
-    ensures { λ _. ⌜ view n m (now (words .exit)) (now (marks .exit))
-        ≡ unmasked m (refilled mode m d (view n m (now (words .entry)) (now (marks .entry)))) ⌝ }
-    ensures { λ _. ⌜ Tidy n m (now (words .exit)) (now (marks .exit)) ⌝ }
+    requires { ⌜ Usable n m (now words) (now marks) ⌝ }
+    ensures { λ _. ⌜ Does n m (λ v. unmasked m (refilled mode m d v))
+        (now (words .entry)) (now (marks .entry)) (now (words .exit)) (now (marks .exit)) ⌝ }
 {
     refill(words, marks, n, m, mode, d);
     clear_mask(words, marks, n, m);
@@ -394,12 +417,10 @@ pub fn begin_choosing(
 // A marked stop stands at position p of route r: the route's mark moves there, and the route is
 // scanned in this round, where p is sooner.
 pub fn activate(words: &mut [u32], marks: &mut [u64], n: u32, m: u32, d: Direction, r: u32, p: u32)
-    requires { ⌜ Sized n m (now words) (now marks) ⌝ }
-    requires { ⌜ Tidy n m (now words) (now marks) ⌝ }
+    requires { ⌜ Usable n m (now words) (now marks) ⌝ }
     requires { ⌜ r < m ⌝ }
-    ensures { λ _. ⌜ view n m (now (words .exit)) (now (marks .exit))
-        ≡ activated d r p (view n m (now (words .entry)) (now (marks .entry))) ⌝ }
-    ensures { λ _. ⌜ Tidy n m (now (words .exit)) (now (marks .exit)) ⌝ }
+    ensures { λ _. ⌜ Does n m (activated d r p)
+        (now (words .entry)) (now (marks .entry)) (now (words .exit)) (now (marks .exit)) ⌝ }
 {
     let mark = active_at(words, n, m, r);
     if is_sooner(d, p, mark) {
@@ -412,11 +433,9 @@ pub fn activate(words: &mut [u32], marks: &mut [u64], n: u32, m: u32, d: Directi
 
 // No stop is marked.
 pub fn clear_marks(words: &mut [u32], marks: &mut [u64], n: u32, m: u32)
-    requires { ⌜ Sized n m (now words) (now marks) ⌝ }
-    requires { ⌜ Tidy n m (now words) (now marks) ⌝ }
-    ensures { λ _. ⌜ view n m (now (words .exit)) (now (marks .exit))
-        ≡ unmarked n (view n m (now (words .entry)) (now (marks .entry))) ⌝ }
-    ensures { λ _. ⌜ Tidy n m (now (words .exit)) (now (marks .exit)) ⌝ }
+    requires { ⌜ Usable n m (now words) (now marks) ⌝ }
+    ensures { λ _. ⌜ Does n m (unmarked n)
+        (now (words .entry)) (now (marks .entry)) (now (words .exit)) (now (marks .exit)) ⌝ }
 {
     let e = pages_of(n);
     clear_part(marks, 0, e);
@@ -426,11 +445,9 @@ pub fn clear_marks(words: &mut [u32], marks: &mut [u64], n: u32, m: u32)
 
 // Holds the current labels and the marks as the rides left them: footpaths are made from these.
 pub fn hold(words: &mut [u32], marks: &mut [u64], n: u32, m: u32)
-    requires { ⌜ Sized n m (now words) (now marks) ⌝ }
-    requires { ⌜ Tidy n m (now words) (now marks) ⌝ }
-    ensures { λ _. ⌜ view n m (now (words .exit)) (now (marks .exit))
-        ≡ holding (view n m (now (words .entry)) (now (marks .entry))) ⌝ }
-    ensures { λ _. ⌜ Tidy n m (now (words .exit)) (now (marks .exit)) ⌝ }
+    requires { ⌜ Usable n m (now words) (now marks) ⌝ }
+    ensures { λ _. ⌜ Does n m holding
+        (now (words .entry)) (now (marks .entry)) (now (words .exit)) (now (marks .exit)) ⌝ }
 {
     let a = n as usize;
     let b = 3 * a;
@@ -477,13 +494,11 @@ fn put_leg(words: &mut [u32], i: usize, g: Leg)
 
 // Stop s is reached at moment t by the leg g, in round k.
 fn store(words: &mut [u32], marks: &mut [u64], n: u32, m: u32, k: u32, s: u32, t: Time, g: Leg)
-    requires { ⌜ Sized n m (now words) (now marks) ⌝ }
-    requires { ⌜ Tidy n m (now words) (now marks) ⌝ }
+    requires { ⌜ Usable n m (now words) (now marks) ⌝ }
     requires { ⌜ s < n ⌝ }
     requires { ⌜ k < 15 ⌝ }
-    ensures { λ _. ⌜ view n m (now (words .exit)) (now (marks .exit))
-        ≡ stored (k * n) s (t .0) g (view n m (now (words .entry)) (now (marks .entry))) ⌝ }
-    ensures { λ _. ⌜ Tidy n m (now (words .exit)) (now (marks .exit)) ⌝ }
+    ensures { λ _. ⌜ Does n m (stored (k * n) s (t .0) g)
+        (now (words .entry)) (now (marks .entry)) (now (words .exit)) (now (marks .exit)) ⌝ }
 {
     let a = n as usize + s as usize;
     let b = 2 * (n as usize) + s as usize;
@@ -506,13 +521,11 @@ pub fn apply(
     t: Time,
     g: Leg,
 )
-    requires { ⌜ Sized n m (now words) (now marks) ⌝ }
-    requires { ⌜ Tidy n m (now words) (now marks) ⌝ }
+    requires { ⌜ Usable n m (now words) (now marks) ⌝ }
     requires { ⌜ s < n ⌝ }
     requires { ⌜ k < 15 ⌝ }
-    ensures { λ _. ⌜ view n m (now (words .exit)) (now (marks .exit))
-        ≡ applied d (k * n) s (t .0) g (view n m (now (words .entry)) (now (marks .entry))) ⌝ }
-    ensures { λ _. ⌜ Tidy n m (now (words .exit)) (now (marks .exit)) ⌝ }
+    ensures { λ _. ⌜ Does n m (applied d (k * n) s (t .0) g)
+        (now (words .entry)) (now (marks .entry)) (now (words .exit)) (now (marks .exit)) ⌝ }
 {
     let best = best_at(words, n, m, s);
     if is_better(d, t, best) {

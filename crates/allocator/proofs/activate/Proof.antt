@@ -2,7 +2,7 @@
 -- Assumes nothing.
 use borrow.Author.Needs.{needs}
 use Rattle.allocator.specs.Operations.{activated}
-use Rattle.allocator.proofs.Operated.{both, does-activate, does-activate-not}
+use Rattle.allocator.proofs.Operated.{does, does-activate, does-activate-not}
 use Rattle.allocator.proofs.activate.Statement.{statement}
 use Rattle.allocator.proofs.activate.Tie as tie
 
@@ -46,13 +46,13 @@ same-length-2 : tie.Need-same-length-2
 same-length-2 c = search needs
 
 returns : tie.Need-returns
-returns c = both (activated _ _ _) (search (needs, does-activate)) (search needs)
+returns c = does (activated _ _ _) (search (needs, does-activate)) (search needs)
 
 same-length-3 : tie.Need-same-length-3
 same-length-3 c = search needs
 
 returns-2 : tie.Need-returns-2
-returns-2 c = both (activated _ _ _) (search (needs, does-activate-not)) (search needs)
+returns-2 c = does (activated _ _ _) (search (needs, does-activate-not)) (search needs)
 
 pub activate-spec : {M : Type 1} → statement M
 activate-spec =

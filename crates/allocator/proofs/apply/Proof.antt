@@ -21,13 +21,13 @@ same-length-2 : tie.Need-same-length-2
 same-length-2 c = search needs
 
 returns : tie.Need-returns
-returns c = (search (needs, applies), search needs)
+returns c = record { holds = search (needs, applies); usable = search needs }
 
 same-length-3 : tie.Need-same-length-3
 same-length-3 c = search needs
 
 returns-2 : tie.Need-returns-2
-returns-2 c = (search (needs, applies-not), search needs)
+returns-2 c = record { holds = search (needs, applies-not); usable = search needs }
 
 pub apply-spec : {M : Type 1} → statement M
 apply-spec =

@@ -17,7 +17,7 @@ same-length-2 : tie.Need-same-length-2
 same-length-2 c = search needs
 
 returns : tie.Need-returns
-returns c = (cc, search needs)
+returns c = record { holds = cc; usable = search needs }
 
 pub begin-choosing-spec : {M : Type 1} → statement M
 begin-choosing-spec =

@@ -51,7 +51,7 @@ same-length-2 : tie.Need-same-length-2
 same-length-2 c = search needs
 
 returns : tie.Need-returns
-returns c = (search (needs, clear-is), search (needs, clear-tidy))
+returns c = record { holds = search (needs, clear-is); usable = record { sized = search needs; tidy = search (needs, clear-tidy) } }
 
 pub clear-spec : {M : Type 1} → statement M
 clear-spec =

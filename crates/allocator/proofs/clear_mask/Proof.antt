@@ -2,7 +2,7 @@
 -- Assumes nothing.
 use borrow.Author.Needs.{needs}
 use Rattle.allocator.specs.Operations.{unmasked}
-use Rattle.allocator.proofs.Operated.{both, does-clear-mask}
+use Rattle.allocator.proofs.Operated.{does, does-clear-mask}
 use Rattle.allocator.proofs.clear_mask.Statement.{statement}
 use Rattle.allocator.proofs.clear_mask.Tie as tie
 
@@ -25,7 +25,7 @@ same-length : tie.Need-same-length
 same-length c = search needs
 
 returns : tie.Need-returns
-returns c = both (unmasked _) (search (needs, does-clear-mask)) (search needs)
+returns c = does (unmasked _) (search (needs, does-clear-mask)) (search needs)
 
 pub clear-mask-spec : {M : Type 1} → statement M
 clear-mask-spec =

@@ -2,7 +2,7 @@
 -- Assumes nothing.
 use borrow.Author.Needs.{needs}
 use Rattle.allocator.specs.Operations.{holding}
-use Rattle.allocator.proofs.Operated.{both, does-hold}
+use Rattle.allocator.proofs.Operated.{does, does-hold}
 use Rattle.allocator.proofs.hold.Statement.{statement}
 use Rattle.allocator.proofs.hold.Tie as tie
 
@@ -25,7 +25,7 @@ same-length-2 : tie.Need-same-length-2
 same-length-2 c = search needs
 
 returns : tie.Need-returns
-returns c = both holding (search (needs, does-hold)) (search needs)
+returns c = does holding (search (needs, does-hold)) (search needs)
 
 pub hold-spec : {M : Type 1} → statement M
 hold-spec =

@@ -2,7 +2,7 @@
 -- Assumes nothing.
 use borrow.Author.Needs.{needs}
 use Rattle.allocator.specs.Operations.{started}
-use Rattle.allocator.proofs.Operated.{both, does-start}
+use Rattle.allocator.proofs.Operated.{does, does-start}
 use Rattle.allocator.proofs.start.Statement.{statement}
 use Rattle.allocator.proofs.start.Tie as tie
 
@@ -25,7 +25,7 @@ same-length-2 : tie.Need-same-length-2
 same-length-2 c = search needs
 
 returns : tie.Need-returns
-returns c = both (started _ _) (search (needs, does-start)) (search needs)
+returns c = does (started _ _) (search (needs, does-start)) (search needs)
 
 pub start-spec : {M : Type 1} → statement M
 start-spec =

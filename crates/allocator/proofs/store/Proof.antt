@@ -5,7 +5,7 @@ use mathlib.Core.Path.{_∙_}
 use native.Mathlib.Omega.{arith}
 use lib.ListN.{length-set}
 use Rattle.allocator.specs.Operations.{stored}
-use Rattle.allocator.proofs.Operated.{both, does-store}
+use Rattle.allocator.proofs.Operated.{does, does-store}
 use Rattle.allocator.proofs.store.Statement.{statement}
 use Rattle.allocator.proofs.store.Tie as tie
 
@@ -46,7 +46,7 @@ same-length-2 : tie.Need-same-length-2
 same-length-2 c = search needs
 
 returns : tie.Need-returns
-returns c = both (stored _ _ _ _) (search (needs, does-store)) (search needs)
+returns c = does (stored _ _ _ _) (search (needs, does-store)) (search needs)
 
 pub store-spec : {M : Type 1} → statement M
 store-spec =

@@ -2,7 +2,7 @@
 -- Assumes nothing.
 use borrow.Author.Needs.{needs}
 use Rattle.allocator.specs.Operations.{swapped}
-use Rattle.allocator.proofs.Operated.{both, does-swap}
+use Rattle.allocator.proofs.Operated.{does, does-swap}
 use Rattle.allocator.proofs.swap_labels.Statement.{statement}
 use Rattle.allocator.proofs.swap_labels.Tie as tie
 
@@ -19,7 +19,7 @@ same-length : tie.Need-same-length
 same-length c = search needs
 
 returns : tie.Need-returns
-returns c = both (swapped _) (search (needs, does-swap)) (search needs)
+returns c = does (swapped _) (search (needs, does-swap)) (search needs)
 
 pub swap-labels-spec : {M : Type 1} → statement M
 swap-labels-spec = tie.close (tie.spec mul-e copy-requires fill-requires same-length returns)

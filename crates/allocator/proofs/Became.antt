@@ -12,14 +12,14 @@ use Rattle.allocator.specs.Tidy.{TidyParts}
 pub record Kept (s r : ℕ) (w m w′ m′ : List ℕ) : Type 0 where
   pub tidy : TidyParts s r w m → TidyParts s r w′ m′
 
--- w and m became v and n, and f says how the state changed
-pub record Does (s r : ℕ) (f : Work → Work) (w m v n : List ℕ) : Type 0 where
+-- w and m became v and n, and f says how the state changed: what `Does` of specs/ says, whether or not w and m are tidy
+pub record Became (s r : ℕ) (f : Work → Work) (w m v n : List ℕ) : Type 0 where
   pub is : view s r v n ≡ f (view s r w m)
   pub kept : Kept s r w m v n
   pub sized : Sized s r v n
 
-pub does-then : {s r : ℕ} (f g : Work → Work) {w m v n x y : List ℕ} → Does s r f w m v n → Does s r g v n x y
-    → Does s r (λ a. g (f a)) w m x y
+pub does-then : {s r : ℕ} (f g : Work → Work) {w m v n x y : List ℕ} → Became s r f w m v n → Became s r g v n x y
+    → Became s r (λ a. g (f a)) w m x y
 does-then f g p q = record {
   is = q .is ∙ ap g (p .is);
   kept = record { tidy = λ t. q .kept .tidy (p .kept .tidy t) };
