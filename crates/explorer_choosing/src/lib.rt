@@ -1,11 +1,9 @@
 // How a round begins: labels swapped, routes chosen, marks cleared.
-ghost use mathlib.Core.Path.{_≡_};
 ghost use Prim.Native.Nat.{_<_};
-ghost use Rattle.repository.specs.Accepted.{Accepted};
 ghost use Rattle.repository.specs.NetOf.{netOf};
-ghost use Rattle.allocator.specs.Layout.{Sized, view};
-ghost use Rattle.allocator.specs.Tidy.{Tidy};
+ghost use Rattle.allocator.specs.Does.{Usable, Does};
 ghost use Rattle.allocator.specs.Operations.{unmasked, refilled};
+ghost use Rattle.explorer.specs.Fixed.{Fixed};
 ghost use Rattle.explorer_choosing.specs.Chosen.{chosenAt, chosen, openedBy};
 use marks::Next;
 use model::Direction;
@@ -21,15 +19,11 @@ fn choose_at(
     d: Direction,
     s: u32,
 )
-    requires { ⌜ Accepted (now tables) ⌝ }
-    requires { ⌜ n ≡ netOf (now tables) .stops ⌝ }
-    requires { ⌜ m ≡ netOf (now tables) .routes ⌝ }
-    requires { ⌜ Sized n m (now words) (now marks) ⌝ }
-    requires { ⌜ Tidy n m (now words) (now marks) ⌝ }
+    requires { ⌜ Fixed (now tables) n m ⌝ }
+    requires { ⌜ Usable n m (now words) (now marks) ⌝ }
     requires { ⌜ s < n ⌝ }
-    ensures { λ _. ⌜ view n m (now (words .exit)) (now (marks .exit))
-        ≡ chosenAt d (netOf (now (tables .entry))) s (view n m (now (words .entry)) (now (marks .entry))) ⌝ }
-    ensures { λ _. ⌜ Tidy n m (now (words .exit)) (now (marks .exit)) ⌝ }
+    ensures { λ _. ⌜ Does n m (chosenAt d (netOf (now (tables .entry))) s)
+        (now (words .entry)) (now (marks .entry)) (now (words .exit)) (now (marks .exit)) ⌝ }
 {
     let end = repository::calls::calls_to(tables, s);
     let mut j = repository::calls::calls_from(tables, s);
@@ -50,14 +44,10 @@ pub fn choose_routes(
     m: u32,
     d: Direction,
 )
-    requires { ⌜ Accepted (now tables) ⌝ }
-    requires { ⌜ n ≡ netOf (now tables) .stops ⌝ }
-    requires { ⌜ m ≡ netOf (now tables) .routes ⌝ }
-    requires { ⌜ Sized n m (now words) (now marks) ⌝ }
-    requires { ⌜ Tidy n m (now words) (now marks) ⌝ }
-    ensures { λ _. ⌜ view n m (now (words .exit)) (now (marks .exit))
-        ≡ chosen d (netOf (now (tables .entry))) (view n m (now (words .entry)) (now (marks .entry))) ⌝ }
-    ensures { λ _. ⌜ Tidy n m (now (words .exit)) (now (marks .exit)) ⌝ }
+    requires { ⌜ Fixed (now tables) n m ⌝ }
+    requires { ⌜ Usable n m (now words) (now marks) ⌝ }
+    ensures { λ _. ⌜ Does n m (chosen d (netOf (now (tables .entry))))
+        (now (words .entry)) (now (marks .entry)) (now (words .exit)) (now (marks .exit)) ⌝ }
 {
     let mut at: usize = 0;
     loop {
@@ -81,15 +71,10 @@ fn choose_anew(
     mode: Mode,
     d: Direction,
 )
-    requires { ⌜ Accepted (now tables) ⌝ }
-    requires { ⌜ n ≡ netOf (now tables) .stops ⌝ }
-    requires { ⌜ m ≡ netOf (now tables) .routes ⌝ }
-    requires { ⌜ Sized n m (now words) (now marks) ⌝ }
-    requires { ⌜ Tidy n m (now words) (now marks) ⌝ }
-    ensures { λ _. ⌜ view n m (now (words .exit)) (now (marks .exit))
-        ≡ chosen d (netOf (now (tables .entry)))
-        (unmasked m (refilled mode m d (view n m (now (words .entry)) (now (marks .entry))))) ⌝ }
-    ensures { λ _. ⌜ Tidy n m (now (words .exit)) (now (marks .exit)) ⌝ }
+    requires { ⌜ Fixed (now tables) n m ⌝ }
+    requires { ⌜ Usable n m (now words) (now marks) ⌝ }
+    ensures { λ _. ⌜ Does n m (λ v. chosen d (netOf (now (tables .entry))) (unmasked m (refilled mode m d v)))
+        (now (words .entry)) (now (marks .entry)) (now (words .exit)) (now (marks .exit)) ⌝ }
 {
     allocator::begin_choosing(words, marks, n, m, mode, d);
     choose_routes(tables, words, marks, n, m, d);
@@ -105,14 +90,10 @@ pub fn open_round(
     mode: Mode,
     d: Direction,
 )
-    requires { ⌜ Accepted (now tables) ⌝ }
-    requires { ⌜ n ≡ netOf (now tables) .stops ⌝ }
-    requires { ⌜ m ≡ netOf (now tables) .routes ⌝ }
-    requires { ⌜ Sized n m (now words) (now marks) ⌝ }
-    requires { ⌜ Tidy n m (now words) (now marks) ⌝ }
-    ensures { λ _. ⌜ view n m (now (words .exit)) (now (marks .exit))
-        ≡ openedBy mode d (netOf (now (tables .entry))) (view n m (now (words .entry)) (now (marks .entry))) ⌝ }
-    ensures { λ _. ⌜ Tidy n m (now (words .exit)) (now (marks .exit)) ⌝ }
+    requires { ⌜ Fixed (now tables) n m ⌝ }
+    requires { ⌜ Usable n m (now words) (now marks) ⌝ }
+    ensures { λ _. ⌜ Does n m (openedBy mode d (netOf (now (tables .entry))))
+        (now (words .entry)) (now (marks .entry)) (now (words .exit)) (now (marks .exit)) ⌝ }
 {
     allocator::swap_labels(words, marks, n, m);
     choose_anew(tables, words, marks, n, m, mode, d);

@@ -7,7 +7,7 @@ begin-choosing-requires : tie.Need-begin-choosing-requires
 begin-choosing-requires c κs = search needs
 
 choose-routes-requires : tie.Need-choose-routes-requires
-choose-routes-requires c κs = (search needs, (search needs, (search needs, (search needs, search needs))))
+choose-routes-requires c κs = (search needs, search needs)
 
 same-length : tie.Need-same-length
 same-length c = search needs
@@ -16,7 +16,7 @@ same-length-2 : tie.Need-same-length-2
 same-length-2 c = search needs
 
 returns : tie.Need-returns
-returns c = (cc, search needs)
+returns c = record { holds = cc; usable = search needs }
 
 pub choose-anew-spec : {M : Type 1} → statement M
 choose-anew-spec =

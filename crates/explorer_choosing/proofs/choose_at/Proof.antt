@@ -7,7 +7,7 @@ use Rattle.repository.specs.Sections.{callRoute}
 use Rattle.repository.specs.NetOf.{netOf}
 use Rattle.repository.specs.Rows.{calls, firstRow, rest}
 use Rattle.allocator.specs.Layout.{view}
-use Rattle.allocator.specs.Tidy.{Tidy}
+use Rattle.allocator.specs.Does.{Usable}
 use Rattle.explorer.specs.Turns.{Turn}
 use Rattle.explorer.proofs.Turns.{row-end}
 use Rattle.explorer_choosing.specs.Chosen.{chosenBy, chosenAt}
@@ -19,7 +19,7 @@ abbrev Inv-loop : tie.InvT-loop
 Inv-loop tables words₀ marks₀ n m d s end j₀ words marks j =
     Turn (chosenBy d (netOf tables) s) (chosenAt d (netOf tables) s (view n m words₀ marks₀)) (rest (callRoute tables) j end)
     (view n m words marks)
-    × (firstRow calls tables s ≤ j) × Tidy n m words marks
+    × (firstRow calls tables s ≤ j) × Usable n m words marks
     × (length words ≡ length words₀) × (length marks ≡ length marks₀)
 
 abbrev μ-loop : tie.MeasureT-loop
@@ -41,7 +41,7 @@ index-in-route-requires : tie.Need-index-in-route-requires Inv-loop μ-loop
 index-in-route-requires c κs = search needs
 
 activate-requires : tie.Need-activate-requires Inv-loop μ-loop
-activate-requires c κs = (search needs, (search needs, search (needs, route-in)))
+activate-requires c κs = (search needs, search (needs, route-in))
 
 add-j : tie.Need-add-j Inv-loop μ-loop
 add-j c = search needs
@@ -59,7 +59,7 @@ same-length-2 : tie.Need-same-length-2 Inv-loop μ-loop
 same-length-2 c = search needs
 
 returns : tie.Need-returns Inv-loop μ-loop
-returns c = (search (needs, row-end), search needs)
+returns c = record { holds = search (needs, row-end); usable = search needs }
 
 pub choose-at-spec : {M : Type 1} → statement M
 choose-at-spec =

@@ -6,7 +6,7 @@ use lib.ListN.{length}
 use Rattle.repository.specs.NetOf.{netOf}
 use Rattle.allocator.specs.Layout.{view, markOf}
 use Rattle.allocator.specs.Marked.{after}
-use Rattle.allocator.specs.Tidy.{Tidy}
+use Rattle.allocator.specs.Does.{Usable}
 use Rattle.explorer.specs.Turns.{Turn}
 use Rattle.explorer.proofs.Turns.{mark-end}
 use Rattle.explorer.proofs.Marked.{mark-long, visit-below, visit-less, visit-fits, visit-past}
@@ -19,7 +19,7 @@ abbrev Inv-loop : tie.InvT-loop
 Inv-loop tables words₀ marks₀ n m d at₀ words marks at =
     Turn (chosenAt d (netOf tables)) (chosen d (netOf tables) (view n m words₀ marks₀))
     (after at (markOf n m marks)) (view n m words marks)
-    × Tidy n m words marks × (length words ≡ length words₀) × (length marks ≡ length marks₀)
+    × Usable n m words marks × (length words ≡ length words₀) × (length marks ≡ length marks₀)
 
 abbrev μ-loop : tie.MeasureT-loop
 μ-loop tables words₀ marks₀ n m d at₀ words marks at = n - at
@@ -37,8 +37,7 @@ cast-choose-at : tie.Need-cast-choose-at Inv-loop μ-loop
 cast-choose-at c = record { fits = search (needs, visit-fits, mark-long) }
 
 choose-at-requires : tie.Need-choose-at-requires Inv-loop μ-loop
-choose-at-requires c κs =
-    (search needs, (search needs, (search needs, (search needs, (search needs, search (needs, visit-below, mark-long))))))
+choose-at-requires c κs = (search needs, (search needs, search (needs, visit-below, mark-long)))
 
 add-at : tie.Need-add-at Inv-loop μ-loop
 add-at c = record { fits = search (needs, visit-past, mark-long) }
@@ -59,7 +58,7 @@ same-length-2 : tie.Need-same-length-2 Inv-loop μ-loop
 same-length-2 c = search needs
 
 returns : tie.Need-returns Inv-loop μ-loop
-returns c = (search (needs, mark-end), search needs)
+returns c = record { holds = search (needs, mark-end); usable = search needs }
 
 pub choose-routes-spec : {M : Type 1} → statement M
 choose-routes-spec =

@@ -8,10 +8,10 @@ swap-labels-requires : tie.Need-swap-labels-requires
 swap-labels-requires c κs = search needs
 
 choose-anew-requires : tie.Need-choose-anew-requires
-choose-anew-requires c κs = (search needs, (search needs, (search needs, (search needs, search needs))))
+choose-anew-requires c κs = (search needs, search needs)
 
 clear-marks-requires : tie.Need-clear-marks-requires
-clear-marks-requires c κs = (search needs, search needs)
+clear-marks-requires c κs = search needs
 
 same-length : tie.Need-same-length
 same-length c = search needs
@@ -20,7 +20,7 @@ same-length-2 : tie.Need-same-length-2
 same-length-2 c = search needs
 
 returns : tie.Need-returns
-returns c = (search (needs, opened-steps), search needs)
+returns c = record { holds = search (needs, opened-steps); usable = search needs }
 
 pub open-round-spec : {M : Type 1} → statement M
 open-round-spec =
