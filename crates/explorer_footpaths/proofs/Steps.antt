@@ -1,15 +1,13 @@
--- One footpath, case by case: the moment at its other end, the target's test, the leg, and what it does to the workspace.
+-- One footpath, case by case: the moment at its other end, and what it does to the workspace.
 use Prim.Native.Nat.{ℕ, zero, suc, _+_, _-_, _*_, _≤_, _<_}
-use mathlib.Core.Path.{_≡_, refl, sym, ap, _∙_}
+use mathlib.Core.Path.{_≡_, refl, _∙_}
 use mathlib.Core.Bool.{Bool, true, false}
 use native.Mathlib.Omega.{arith}
-use Rattle.shared.specs.declared.Time.{Time}
 use Rattle.model.specs.declared.Direction.{Direction}
 use Rattle.model.specs.declared.Direction.the-variants.{Departure, Arrival}
 use Rattle.model.specs.declared.Leg.{Leg}
 use Rattle.model.specs.declared.LegType.{LegType}
-use Rattle.model.specs.Moments.{orMax, better, ahead}
-use Rattle.model.specs.Tables.{Foot}
+use Rattle.model.specs.Moments.{orMax, ahead}
 use Rattle.model.specs.Legs.{legOf}
 use Rattle.model.specs.Footpaths.{walked}
 use Rattle.model.specs.Work.{Work}
@@ -35,28 +33,6 @@ module _ {d : Direction} (x span : ℕ) where
   pub walked-nowhere : d ≡ Arrival → x ≤ span → 0 ≡ walked d x span
   unfolding walked
   walked-nowhere e h = rw e (omega arith)
-
--- ---- the target's test
-module _ {d : Direction} (y target : ℕ) where
-  pub ahead-departure : {r : Bool} → d ≡ Departure → r ≡ better d y target → r ≡ ahead d y target
-  unfolding ahead
-  ahead-departure e f = f ∙ rw e
-
-  pub ahead-arrival : d ≡ Arrival → true ≡ ahead d y target
-  unfolding ahead
-  ahead-arrival e = rw e
-
--- ---- the leg
-module _ {d : Direction} (c : LegType) (s to : ℕ) (x y : Time) where
-  pub leg-departure : d ≡ Departure
-      → record { from = s; to = to; departure = x; arrival = y; kind = c } ≡ legOf d c s (x .0) to (y .0)
-  unfolding legOf
-  leg-departure e = rw e
-
-  pub leg-arrival : d ≡ Arrival
-      → record { from = to; to = s; departure = y; arrival = x; kind = c } ≡ legOf d c s (x .0) to (y .0)
-  unfolding legOf
-  leg-arrival e = rw e
 
 -- ---- the footpath
 module _ (d : Direction) (n k target : ℕ) (c : LegType) (s x to span : ℕ) (w : Work) {y : ℕ} {r : Bool}

@@ -16,11 +16,10 @@ use Rattle.model.specs.declared.LegType.the-variants.{Transfer, Walk}
 use Rattle.model.specs.Tables.{Foot, Net}
 use Rattle.model.specs.Lists.{setIn}
 use Rattle.model.specs.Work.{Work}
-use Rattle.repository.specs.Accepted.{Accepted}
-use Rattle.repository.specs.NetOf.{netOf}
 use Rattle.allocator.specs.Layout.{view, heldOf, heldMarkOf}
 use Rattle.allocator.specs.Marked.{after}
 use Rattle.allocator.proofs.Visited.{after-next}
+use Rattle.explorer.specs.Fixed.{Fixed}
 use Rattle.explorer.specs.Fused.{pathsWork, stopWork, stopsWork, feetWork}
 use Rattle.explorer.specs.Turns.{inTurn, Turn}
 use Rattle.explorer.proofs.Turns.{mark-start, mark-next}
@@ -79,13 +78,13 @@ visited P i fs {s = s} h e f = front (subst (Each P) (after-next i fs (sym f ∙
     front (cons p h) = p
 
 -- a stop whose mark is held can be left
-pub leaving : (m : ℕ) (p q : List ℕ) (i : ℕ) {w : List ℕ} {n k s : ℕ} {a : Next} → Accepted w → n ≡ netOf w .stops → k < 15
+pub leaving : (m : ℕ) (p q : List ℕ) (i : ℕ) {w : List ℕ} {n k s : ℕ} {a : Next} → Fixed w n m → k < 15
     → Footing n (view n m p q) → a ≡ firstOf (after i (heldMarkOf n m q)) → a ≡ At s
     → Leaving w n k s (getD (heldOf n m p) s 0)
 unfolding view
-leaving m p q i {n = n} {s = s} h en lk z e f =
+leaving m p q i {n = n} {s = s} h lk z e f =
     let o = visited (λ u. (u < n) × (0 < getD (heldOf n m p) u 0)) i (heldMarkOf n m q) (z .marked) e f in
-    record { accepted = h; stops = en; round = lk; stop = o .0; label = record { some = o .1; most = z .most s (o .0) } }
+    record { accepted = h .accepted; stops = h .stops; round = lk; stop = o .0; label = record { some = o .1; most = z .most s (o .0) } }
 
 -- ---- all stops
 module _ (d : Direction) (t : Net) (k target : ℕ) (walking : Bool) (n m : ℕ) where

@@ -4,20 +4,18 @@ ghost use Prim.Native.Nat.{ℕ, _<_, _≤_};
 ghost use lib.ListN.{getD};
 ghost use Rattle.model.specs.declared.Direction.the-variants.{Departure, Arrival};
 ghost use Rattle.model.specs.declared.LegType.the-variants.{Transfer, Walk};
-ghost use Rattle.model.specs.Moments.{better, ahead};
-ghost use Rattle.model.specs.Legs.{legOf};
+ghost use Rattle.model.specs.Moments.{better};
 ghost use Rattle.model.specs.Footpaths.{walked};
-ghost use Rattle.repository.specs.Accepted.{Accepted};
 ghost use Rattle.repository.specs.NetOf.{transferRow, walkRow, netOf};
 ghost use Rattle.repository.specs.Rows.{transfers, walks, OfStop};
-ghost use Rattle.allocator.specs.Layout.{Words, Sized, view, bestOf, heldOf};
-ghost use Rattle.allocator.specs.Tidy.{Tidy};
+ghost use Rattle.allocator.specs.Layout.{Words, view, bestOf, heldOf};
+ghost use Rattle.allocator.specs.Does.{Usable, Does};
+ghost use Rattle.explorer.specs.Fixed.{Fixed};
 ghost use Rattle.explorer.specs.Fused.{stopWork, feetWork};
 ghost use Rattle.explorer.specs.Turns.{inTurn};
 ghost use Rattle.explorer_footpaths.specs.Footing.{Label, Footing, Leaving, footFrom};
 use marks::Next;
 use model::Direction;
-use model::Leg;
 use model::LegType;
 use shared::Duration;
 use shared::Time;
@@ -37,38 +35,6 @@ fn walked_at(d: Direction, x: Time, span: Duration) -> Time
             }
             Time(0)
         }
-    }
-}
-
-// Whether the moment y is better than the target's; an arrival search has no target test.
-fn is_ahead(d: Direction, y: Time, target: Time) -> bool
-    ensures { λ r. ⌜ r ≡ ahead d (y .0) (target .0) ⌝ }
-{
-    match d {
-        Direction::Departure => allocator::is_better(d, y, target),
-        Direction::Arrival => true,
-    }
-}
-
-// The leg between stop s at x and the stop `to` at y: earlier first.
-fn leg_of(d: Direction, kind: LegType, s: u32, x: Time, to: u32, y: Time) -> Leg
-    ensures { λ g. ⌜ g ≡ legOf d kind s (x .0) to (y .0) ⌝ }
-{
-    match d {
-        Direction::Departure => Leg {
-            from: s,
-            to: to,
-            departure: x,
-            arrival: y,
-            kind: kind,
-        },
-        Direction::Arrival => Leg {
-            from: to,
-            to: s,
-            departure: y,
-            arrival: x,
-            kind: kind,
-        },
     }
 }
 
@@ -98,20 +64,17 @@ fn explore_path(
     to: u32,
     span: Duration,
 )
-    requires { ⌜ Sized n m (now words) (now marks) ⌝ }
-    requires { ⌜ Tidy n m (now words) (now marks) ⌝ }
+    requires { ⌜ Usable n m (now words) (now marks) ⌝ }
     requires { ⌜ k < 15 ⌝ }
     requires { ⌜ Label (x .0) ⌝ }
     requires { ⌜ to < n ⌝ }
     requires { ⌜ span .0 ≤ 86400 ⌝ }
-    ensures { λ _. ⌜ view n m (now (words .exit)) (now (marks .exit))
-        ≡ footFrom d n k (target .0) kind s (x .0) (record { to = to; span = span .0 })
-        (view n m (now (words .entry)) (now (marks .entry))) ⌝ }
-    ensures { λ _. ⌜ Tidy n m (now (words .exit)) (now (marks .exit)) ⌝ }
+    ensures { λ _. ⌜ Does n m (footFrom d n k (target .0) kind s (x .0) (record { to = to; span = span .0 }))
+        (now (words .entry)) (now (marks .entry)) (now (words .exit)) (now (marks .exit)) ⌝ }
 {
     let y = walked_at(d, x, span);
-    if is_ahead(d, y, target) {
-        let g = leg_of(d, kind, s, x, to, y);
+    if allocator::is_ahead(d, y, target) {
+        let g = allocator::leg_of(d, kind, s, x, to, y);
         allocator::apply(words, marks, n, m, d, k, to, y, g);
     }
 }
@@ -132,12 +95,9 @@ fn explore_transfer(
 )
     requires { ⌜ Leaving (now tables) n k s (x .0) ⌝ }
     requires { ⌜ OfStop transfers (now tables) s j ⌝ }
-    requires { ⌜ Sized n m (now words) (now marks) ⌝ }
-    requires { ⌜ Tidy n m (now words) (now marks) ⌝ }
-    ensures { λ _. ⌜ view n m (now (words .exit)) (now (marks .exit))
-        ≡ footFrom d n k (target .0) Transfer s (x .0) (transferRow (now (tables .entry)) j)
-        (view n m (now (words .entry)) (now (marks .entry))) ⌝ }
-    ensures { λ _. ⌜ Tidy n m (now (words .exit)) (now (marks .exit)) ⌝ }
+    requires { ⌜ Usable n m (now words) (now marks) ⌝ }
+    ensures { λ _. ⌜ Does n m (footFrom d n k (target .0) Transfer s (x .0) (transferRow (now (tables .entry)) j))
+        (now (words .entry)) (now (marks .entry)) (now (words .exit)) (now (marks .exit)) ⌝ }
 {
     let to = repository::footpaths::transfer_to(tables, j);
     if may_gain(words, n, m, d, x, to) {
@@ -173,12 +133,9 @@ fn explore_transfers_at(
     x: Time,
 )
     requires { ⌜ Leaving (now tables) n k s (x .0) ⌝ }
-    requires { ⌜ Sized n m (now words) (now marks) ⌝ }
-    requires { ⌜ Tidy n m (now words) (now marks) ⌝ }
-    ensures { λ _. ⌜ view n m (now (words .exit)) (now (marks .exit))
-        ≡ inTurn (footFrom d n k (target .0) Transfer s (x .0)) (netOf (now (tables .entry)) .transfers s)
-        (view n m (now (words .entry)) (now (marks .entry))) ⌝ }
-    ensures { λ _. ⌜ Tidy n m (now (words .exit)) (now (marks .exit)) ⌝ }
+    requires { ⌜ Usable n m (now words) (now marks) ⌝ }
+    ensures { λ _. ⌜ Does n m (inTurn (footFrom d n k (target .0) Transfer s (x .0)) (netOf (now (tables .entry)) .transfers s))
+        (now (words .entry)) (now (marks .entry)) (now (words .exit)) (now (marks .exit)) ⌝ }
 {
     let end = repository::footpaths::transfers_to(tables, s);
     let mut j = repository::footpaths::transfers_from(tables, s);
@@ -204,12 +161,9 @@ fn explore_walk(
 )
     requires { ⌜ Leaving (now tables) n k s (x .0) ⌝ }
     requires { ⌜ OfStop walks (now tables) s j ⌝ }
-    requires { ⌜ Sized n m (now words) (now marks) ⌝ }
-    requires { ⌜ Tidy n m (now words) (now marks) ⌝ }
-    ensures { λ _. ⌜ view n m (now (words .exit)) (now (marks .exit))
-        ≡ footFrom d n k (target .0) Walk s (x .0) (walkRow (now (tables .entry)) j)
-        (view n m (now (words .entry)) (now (marks .entry))) ⌝ }
-    ensures { λ _. ⌜ Tidy n m (now (words .exit)) (now (marks .exit)) ⌝ }
+    requires { ⌜ Usable n m (now words) (now marks) ⌝ }
+    ensures { λ _. ⌜ Does n m (footFrom d n k (target .0) Walk s (x .0) (walkRow (now (tables .entry)) j))
+        (now (words .entry)) (now (marks .entry)) (now (words .exit)) (now (marks .exit)) ⌝ }
 {
     let to = repository::footpaths::walk_to(tables, j);
     if may_gain(words, n, m, d, x, to) {
@@ -245,12 +199,9 @@ fn explore_walks_at(
     x: Time,
 )
     requires { ⌜ Leaving (now tables) n k s (x .0) ⌝ }
-    requires { ⌜ Sized n m (now words) (now marks) ⌝ }
-    requires { ⌜ Tidy n m (now words) (now marks) ⌝ }
-    ensures { λ _. ⌜ view n m (now (words .exit)) (now (marks .exit))
-        ≡ inTurn (footFrom d n k (target .0) Walk s (x .0)) (netOf (now (tables .entry)) .walks s)
-        (view n m (now (words .entry)) (now (marks .entry))) ⌝ }
-    ensures { λ _. ⌜ Tidy n m (now (words .exit)) (now (marks .exit)) ⌝ }
+    requires { ⌜ Usable n m (now words) (now marks) ⌝ }
+    ensures { λ _. ⌜ Does n m (inTurn (footFrom d n k (target .0) Walk s (x .0)) (netOf (now (tables .entry)) .walks s))
+        (now (words .entry)) (now (marks .entry)) (now (words .exit)) (now (marks .exit)) ⌝ }
 {
     let end = repository::footpaths::walks_to(tables, s);
     let mut j = repository::footpaths::walks_from(tables, s);
@@ -275,12 +226,9 @@ fn explore_stop(
     s: u32,
 )
     requires { ⌜ Leaving (now tables) n k s (getD (heldOf n m (now words)) s 0) ⌝ }
-    requires { ⌜ Sized n m (now words) (now marks) ⌝ }
-    requires { ⌜ Tidy n m (now words) (now marks) ⌝ }
-    ensures { λ _. ⌜ view n m (now (words .exit)) (now (marks .exit))
-        ≡ stopWork d (netOf (now (tables .entry))) k (target .0) walking s
-        (view n m (now (words .entry)) (now (marks .entry))) ⌝ }
-    ensures { λ _. ⌜ Tidy n m (now (words .exit)) (now (marks .exit)) ⌝ }
+    requires { ⌜ Usable n m (now words) (now marks) ⌝ }
+    ensures { λ _. ⌜ Does n m (stopWork d (netOf (now (tables .entry))) k (target .0) walking s)
+        (now (words .entry)) (now (marks .entry)) (now (words .exit)) (now (marks .exit)) ⌝ }
 {
     let x = allocator::held_at(words, n, m, s);
     explore_transfers_at(tables, words, marks, n, m, d, k, target, s, x);
@@ -301,16 +249,12 @@ fn explore_stops(
     target: Time,
     walking: bool,
 )
-    requires { ⌜ Accepted (now tables) ⌝ }
-    requires { ⌜ n ≡ netOf (now tables) .stops ⌝ }
+    requires { ⌜ Fixed (now tables) n m ⌝ }
     requires { ⌜ k < 15 ⌝ }
-    requires { ⌜ Sized n m (now words) (now marks) ⌝ }
-    requires { ⌜ Tidy n m (now words) (now marks) ⌝ }
+    requires { ⌜ Usable n m (now words) (now marks) ⌝ }
     requires { ⌜ Footing n (view n m (now words) (now marks)) ⌝ }
-    ensures { λ _. ⌜ view n m (now (words .exit)) (now (marks .exit))
-        ≡ feetWork d (netOf (now (tables .entry))) k (target .0) walking
-        (view n m (now (words .entry)) (now (marks .entry))) ⌝ }
-    ensures { λ _. ⌜ Tidy n m (now (words .exit)) (now (marks .exit)) ⌝ }
+    ensures { λ _. ⌜ Does n m (feetWork d (netOf (now (tables .entry))) k (target .0) walking)
+        (now (words .entry)) (now (marks .entry)) (now (words .exit)) (now (marks .exit)) ⌝ }
 {
     let mut at: usize = 0;
     loop {
@@ -335,16 +279,12 @@ pub fn explore_transfers(
     target: Time,
     walking: bool,
 )
-    requires { ⌜ Accepted (now tables) ⌝ }
-    requires { ⌜ n ≡ netOf (now tables) .stops ⌝ }
+    requires { ⌜ Fixed (now tables) n m ⌝ }
     requires { ⌜ k < 15 ⌝ }
-    requires { ⌜ Sized n m (now words) (now marks) ⌝ }
-    requires { ⌜ Tidy n m (now words) (now marks) ⌝ }
+    requires { ⌜ Usable n m (now words) (now marks) ⌝ }
     requires { ⌜ Footing n (view n m (now words) (now marks)) ⌝ }
-    ensures { λ _. ⌜ view n m (now (words .exit)) (now (marks .exit))
-        ≡ feetWork Departure (netOf (now (tables .entry))) k (target .0) walking
-        (view n m (now (words .entry)) (now (marks .entry))) ⌝ }
-    ensures { λ _. ⌜ Tidy n m (now (words .exit)) (now (marks .exit)) ⌝ }
+    ensures { λ _. ⌜ Does n m (feetWork Departure (netOf (now (tables .entry))) k (target .0) walking)
+        (now (words .entry)) (now (marks .entry)) (now (words .exit)) (now (marks .exit)) ⌝ }
 {
     explore_stops(
         tables,
@@ -369,16 +309,12 @@ pub fn explore_transfers_reverse(
     k: u32,
     walking: bool,
 )
-    requires { ⌜ Accepted (now tables) ⌝ }
-    requires { ⌜ n ≡ netOf (now tables) .stops ⌝ }
+    requires { ⌜ Fixed (now tables) n m ⌝ }
     requires { ⌜ k < 15 ⌝ }
-    requires { ⌜ Sized n m (now words) (now marks) ⌝ }
-    requires { ⌜ Tidy n m (now words) (now marks) ⌝ }
+    requires { ⌜ Usable n m (now words) (now marks) ⌝ }
     requires { ⌜ Footing n (view n m (now words) (now marks)) ⌝ }
-    ensures { λ _. ⌜ ((target : ℕ) → view n m (now (words .exit)) (now (marks .exit))
-        ≡ feetWork Arrival (netOf (now (tables .entry))) k target walking
-        (view n m (now (words .entry)) (now (marks .entry)))) ⌝ }
-    ensures { λ _. ⌜ Tidy n m (now (words .exit)) (now (marks .exit)) ⌝ }
+    ensures { λ _. ⌜ ((target : ℕ) → Does n m (feetWork Arrival (netOf (now (tables .entry))) k target walking)
+        (now (words .entry)) (now (marks .entry)) (now (words .exit)) (now (marks .exit))) ⌝ }
 {
     explore_stops(
         tables,

@@ -14,7 +14,7 @@ leg-of-requires : tie.Need-leg-of-requires
 leg-of-requires c κs = search needs
 
 apply-requires : tie.Need-apply-requires
-apply-requires c κs = (search needs, (search needs, (search needs, search needs)))
+apply-requires c κs = (search needs, (search needs, search needs))
 
 same-length : tie.Need-same-length
 same-length c = search needs
@@ -23,10 +23,10 @@ same-length-2 : tie.Need-same-length-2
 same-length-2 c = search needs
 
 returns : tie.Need-returns
-returns c = (search (needs, path-taken), search needs)
+returns c = record { holds = search (needs, path-taken); usable = search needs }
 
 returns-2 : tie.Need-returns-2
-returns-2 c = (search (needs, path-left), search needs)
+returns-2 c = record { holds = search (needs, path-left); usable = search needs }
 
 pub explore-path-spec : {M : Type 1} → statement M
 explore-path-spec =

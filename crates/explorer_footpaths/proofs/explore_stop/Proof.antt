@@ -8,10 +8,10 @@ held-at-requires : tie.Need-held-at-requires
 held-at-requires c κs = search needs
 
 explore-transfers-at-requires : tie.Need-explore-transfers-at-requires
-explore-transfers-at-requires c κs = (search (needs, leaving-at), (search needs, search needs))
+explore-transfers-at-requires c κs = (search (needs, leaving-at), search needs)
 
 explore-walks-at-requires : tie.Need-explore-walks-at-requires
-explore-walks-at-requires c κs = (search (needs, leaving-at), (search needs, search needs))
+explore-walks-at-requires c κs = (search (needs, leaving-at), search needs)
 
 same-length : tie.Need-same-length
 same-length c = search needs
@@ -20,7 +20,7 @@ same-length-2 : tie.Need-same-length-2
 same-length-2 c = search needs
 
 returns : tie.Need-returns
-returns c = (search (needs, stop-walks), search needs)
+returns c = record { holds = search (needs, stop-walks); usable = search needs }
 
 same-length-3 : tie.Need-same-length-3
 same-length-3 c = search needs
@@ -29,7 +29,7 @@ same-length-4 : tie.Need-same-length-4
 same-length-4 c = search needs
 
 returns-2 : tie.Need-returns-2
-returns-2 c = (search (needs, stop-only), search needs)
+returns-2 c = record { holds = search (needs, stop-only); usable = search needs }
 
 pub explore-stop-spec : {M : Type 1} → statement M
 explore-stop-spec =

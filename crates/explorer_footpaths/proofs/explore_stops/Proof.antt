@@ -7,7 +7,7 @@ use Rattle.shared.specs.declared.Time.{Time}
 use Rattle.repository.specs.NetOf.{netOf}
 use Rattle.allocator.specs.Layout.{view, heldMarkOf}
 use Rattle.allocator.specs.Marked.{after}
-use Rattle.allocator.specs.Tidy.{Tidy}
+use Rattle.allocator.specs.Does.{Usable}
 use Rattle.explorer.specs.Fused.{stopWork, feetWork}
 use Rattle.explorer.specs.Turns.{Turn}
 use Rattle.explorer.proofs.Turns.{mark-end}
@@ -22,7 +22,7 @@ Inv-loop tables words₀ marks₀ n m d k target walking at₀ words marks at =
     Turn (stopWork d (netOf tables) k (target .0) walking)
     (feetWork d (netOf tables) k (target .0) walking (view n m words₀ marks₀))
     (after at (heldMarkOf n m marks)) (view n m words marks)
-    × Footing n (view n m words marks) × Tidy n m words marks
+    × Footing n (view n m words marks) × Usable n m words marks
     × (length words ≡ length words₀) × (length marks ≡ length marks₀)
 
 abbrev μ-loop : tie.MeasureT-loop
@@ -41,7 +41,7 @@ cast-explore-stop : tie.Need-cast-explore-stop Inv-loop μ-loop
 cast-explore-stop c = record { fits = search (needs, visit-fits, held-long) }
 
 explore-stop-requires : tie.Need-explore-stop-requires Inv-loop μ-loop
-explore-stop-requires c κs = (search (needs, leaving), (search needs, search needs))
+explore-stop-requires c κs = (search (needs, leaving), search needs)
 
 add-at : tie.Need-add-at Inv-loop μ-loop
 add-at c = record { fits = search (needs, visit-past, held-long) }
@@ -62,7 +62,7 @@ same-length-2 : tie.Need-same-length-2 Inv-loop μ-loop
 same-length-2 c = search needs
 
 returns : tie.Need-returns Inv-loop μ-loop
-returns c = (search (needs, mark-end), search needs)
+returns c = record { holds = search (needs, mark-end); usable = search needs }
 
 pub explore-stops-spec : {M : Type 1} → statement M
 explore-stops-spec =

@@ -17,7 +17,7 @@ transfer-duration-requires c κs = search (needs, row-known)
 
 explore-path-requires : tie.Need-explore-path-requires
 explore-path-requires c κs =
-    (search needs, (search needs, (search needs, (search needs, (search (needs, transfer-in), search (needs, transfer-most))))))
+    (search needs, (search needs, (search needs, (search (needs, transfer-in), search (needs, transfer-most)))))
 
 same-length : tie.Need-same-length
 same-length c = search needs
@@ -26,13 +26,13 @@ same-length-2 : tie.Need-same-length-2
 same-length-2 c = search needs
 
 returns : tie.Need-returns
-returns c = (search (needs, row-path), search needs)
+returns c = record { holds = search (needs, row-path); usable = search needs }
 
 same-length-3 : tie.Need-same-length-3
 same-length-3 c = search needs
 
 returns-2 : tie.Need-returns-2
-returns-2 c = (search (needs, path-lost), search needs)
+returns-2 c = record { holds = search (needs, path-lost); usable = search needs }
 
 pub explore-transfer-spec : {M : Type 1} → statement M
 explore-transfer-spec =

@@ -14,7 +14,7 @@ same-length-2 : tie.Need-same-length-2
 same-length-2 c = search needs
 
 returns : tie.Need-returns
-returns c = (search (needs, any-target), search needs)
+returns c = λ t. record { holds = search (needs, any-target); usable = search needs }
 
 pub explore-transfers-reverse-spec : {M : Type 1} → statement M
 explore-transfers-reverse-spec =

@@ -10,7 +10,7 @@ use Rattle.repository.specs.NetOf.{walkRow, netOf}
 use Rattle.repository.specs.Rows.{walks, firstRow, rest}
 use Rattle.repository.proofs.Lists.{walks-are}
 use Rattle.allocator.specs.Layout.{view}
-use Rattle.allocator.specs.Tidy.{Tidy}
+use Rattle.allocator.specs.Does.{Usable}
 use Rattle.explorer.specs.Turns.{inTurn, Turn}
 use Rattle.explorer.proofs.Turns.{row-next, row-end}
 use Rattle.explorer_footpaths.specs.Footing.{footFrom}
@@ -23,7 +23,7 @@ Inv-loop tables words₀ marks₀ n m d k target s x end j₀ words marks j =
     Turn (footFrom d n k (target .0) Walk s (x .0))
     (inTurn (footFrom d n k (target .0) Walk s (x .0)) (netOf tables .walks s) (view n m words₀ marks₀))
     (rest (walkRow tables) j end) (view n m words marks)
-    × (firstRow walks tables s ≤ j) × Tidy n m words marks
+    × (firstRow walks tables s ≤ j) × Usable n m words marks
     × (length words ≡ length words₀) × (length marks ≡ length marks₀)
 
 abbrev μ-loop : tie.MeasureT-loop
@@ -39,7 +39,7 @@ loop-holds : tie.Need-loop-holds Inv-loop μ-loop
 loop-holds c = (search (needs, path-start, walks-are), search needs, search needs, search needs, search needs)
 
 explore-walk-requires : tie.Need-explore-walk-requires Inv-loop μ-loop
-explore-walk-requires c κs = (search needs, (search (needs, row-here), (search needs, search needs)))
+explore-walk-requires c κs = (search needs, (search (needs, row-here), search needs))
 
 add-j : tie.Need-add-j Inv-loop μ-loop
 add-j c = search needs
@@ -57,7 +57,7 @@ same-length-2 : tie.Need-same-length-2 Inv-loop μ-loop
 same-length-2 c = search needs
 
 returns : tie.Need-returns Inv-loop μ-loop
-returns c = (search (needs, row-end), search needs)
+returns c = record { holds = search (needs, row-end); usable = search needs }
 
 pub explore-walks-at-spec : {M : Type 1} → statement M
 explore-walks-at-spec =
