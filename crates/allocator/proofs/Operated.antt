@@ -1,6 +1,6 @@
 -- What each operation's stores do to the state, in the shape in which the proofs of the functions ask for it.
 -- Assumes nothing.
-use mathlib.Core.Path.{_≡_, refl, _∙_}
+use mathlib.Core.Path.{_≡_, refl, ap, _∙_}
 use mathlib.Core.Bool.{Bool, true, false}
 use mathlib.Core.List.{List}
 use Prim.Native.Nat.{ℕ, _+_, _-_, _*_, _<_}
@@ -141,3 +141,7 @@ module _ (s r : ℕ) (w m : List ℕ) (d : Direction) (i t row : ℕ) (g : Leg) 
   pub applies-not : b ≡ false → view s r w m ≡ applied d row i t g (view s r w m)
   unfolding applied apply1
   applies-not y = rw (won false y)
+
+-- the mask cleared after another operation
+pub unmasked-after : (m : ℕ) {v x y : Work} → v ≡ unmasked m x → x ≡ y → v ≡ unmasked m y
+unmasked-after m e f = e ∙ ap (unmasked m) f

@@ -34,3 +34,7 @@ pub opened-steps : (t : Net) (mode : Mode) (d : Direction) (w : Work) {n m : ℕ
     → x ≡ swapped n w
     → y ≡ chosen d t (unmasked m (refilled mode m d x)) → z ≡ unmarked n y → z ≡ openedBy mode d t w
 opened-steps t mode d w en em ex ey ez = ez ∙ rw (ey, ex, en, em) (steps t mode d w)
+
+-- routes chosen after another operation
+pub chosen-after : (d : Direction) (t : Net) {v x y : Work} → v ≡ chosen d t x → x ≡ y → v ≡ chosen d t y
+chosen-after d t e f = e ∙ ap (chosen d t) f

@@ -1,6 +1,7 @@
 -- `allocator::begin_choosing` meets its contract: its two calls, one after the other.
 -- Assumes nothing.
 use borrow.Author.Needs.{needs}
+use Rattle.allocator.proofs.Operated.{unmasked-after}
 use Rattle.allocator.proofs.begin_choosing.Statement.{statement}
 use Rattle.allocator.proofs.begin_choosing.Tie as tie
 
@@ -17,7 +18,7 @@ same-length-2 : tie.Need-same-length-2
 same-length-2 c = search needs
 
 returns : tie.Need-returns
-returns c = record { holds = cc; usable = search needs }
+returns c = record { holds = search unmasked-after; usable = search needs }
 
 pub begin-choosing-spec : {M : Type 1} → statement M
 begin-choosing-spec =

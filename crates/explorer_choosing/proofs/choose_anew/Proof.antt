@@ -1,5 +1,6 @@
 -- `choose_anew`: two operations, one after the other.
 use borrow.Author.Needs.{needs}
+use Rattle.explorer_choosing.proofs.Opened.{chosen-after}
 use Rattle.explorer_choosing.proofs.choose_anew.Statement.{statement}
 use Rattle.explorer_choosing.proofs.choose_anew.Tie as tie
 
@@ -16,7 +17,7 @@ same-length-2 : tie.Need-same-length-2
 same-length-2 c = search needs
 
 returns : tie.Need-returns
-returns c = record { holds = cc; usable = search needs }
+returns c = record { holds = search chosen-after; usable = search needs }
 
 pub choose-anew-spec : {M : Type 1} → statement M
 choose-anew-spec =
