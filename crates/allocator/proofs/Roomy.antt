@@ -1,4 +1,4 @@
--- Slices of the lengths that `wordsRoom` and `marksRoom` say hold the state of s stops and r routes, and no others do.
+-- Slices of the lengths that `wordsRoom` and `marksRoom` say hold the state of s stops and r routes.
 -- Assumes nothing.
 use Prim.Native.Nat.{ℕ, _≤_}
 use mathlib.Core.Path.{_≡_}
@@ -12,6 +12,3 @@ module _ {s r : ℕ} {w m : List ℕ} where
     words = record { most-stops = h; most-routes = i; words-length = a };
     marks = record { most-stops = h; most-routes = i; marks-length = b };
   }
-
-  pub sized-words : Sized s r w m → length w ≡ wordsRoom s r
-  sized-words z = z .words .words-length
