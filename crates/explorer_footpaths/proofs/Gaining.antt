@@ -19,6 +19,7 @@ use Rattle.model.specs.Legs.{legOf}
 use Rattle.model.specs.Work.{Work}
 use Rattle.allocator.specs.Layout.{view, bestOf}
 use Rattle.allocator.specs.Operations.{applied}
+use Rattle.explorer.specs.declared.Round.{Round}
 use Rattle.explorer.specs.Fused.{offered}
 use Rattle.explorer_footpaths.specs.Footing.{Leaving, footFrom}
 
@@ -49,9 +50,12 @@ lost d row target s m g w e = go (ahead d m target)
     go true = rw e
     go false = refl
 
-pub path-lost : (d : Direction) (m target : ℕ) (c : LegType) (r : Foot) (t w y : List ℕ) {n k s x to : ℕ} {b : Bool} → Leaving t n k s x
-    → to ≡ r .to → b ≡ better d x (getD (bestOf n m w) to 0) → b ≡ false → view n m w y ≡ footFrom d n k target c s x r (view n m w y)
+pub path-lost : (o : Round) (c : LegType) (r : Foot) (t w y : List ℕ) {s x to : ℕ} {b : Bool} → Leaving t o s x
+    → to ≡ r .to → b ≡ better (o .direction) x (getD (bestOf (o .stops) (o .routes) w) to 0) → b ≡ false
+    → view (o .stops) (o .routes) w y
+    ≡ footFrom (o .direction) (o .stops) (o .number) (o .target .0) c s x r (view (o .stops) (o .routes) w y)
 unfolding footFrom view
-path-lost d m target c r t w y {n} {k} {s} {x} {to} h et eb f =
-    let e : better d x (getD (bestOf n m w) (r .to) 0) ≡ false = rw (← et) (sym eb ∙ f) in
-    lost d (k * n) target (r .to) _ _ (view n m w y) (worse-on d x (r .span) _ (h .label .some) e)
+path-lost o c r t w y {s} {x} {to} h et eb f =
+    let e : better (o .direction) x (getD (bestOf (o .stops) (o .routes) w) (r .to) 0) ≡ false = rw (← et) (sym eb ∙ f) in
+    lost (o .direction) (o .number * o .stops) (o .target .0) (r .to) _ _ (view (o .stops) (o .routes) w y)
+    (worse-on (o .direction) x (r .span) _ (h .label .some) e)

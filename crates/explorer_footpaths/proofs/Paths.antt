@@ -7,11 +7,13 @@ use Rattle.model.specs.declared.Direction.{Direction}
 use Rattle.model.specs.declared.LegType.{LegType}
 use Rattle.model.specs.Tables.{Foot}
 use Rattle.model.specs.Work.{Work}
-use Rattle.repository.specs.NetOf.{transferRow, walkRow, netOf}
 use Rattle.repository.specs.Rows.{Listing, transfers, walks, firstRow, pastRow, OfStop, rest}
 use Rattle.repository.proofs.Ranges.{of-stop, row-known, transfer-known, walk-known, transfer-short, walk-short}
+use Rattle.explorer.specs.declared.Round.{Round}
 use Rattle.explorer.specs.Turns.{inTurn, Turn}
-use Rattle.explorer_footpaths.specs.Footing.{Leaving, footFrom}
+use Rattle.explorer_footpaths.specs.declared.Footpaths.{Footpaths}
+use Rattle.explorer_footpaths.specs.declared.Footpaths.the-variants.{Transfers, Walks}
+use Rattle.explorer_footpaths.specs.Footing.{listingOf, footRow, Leaving, footFrom}
 
 -- ---- the loop over the rows, of which r says where each leads and how long it takes
 pub path-start : (f : Foot → Work → Work) (r : ℕ → Foot) (a b : ℕ) (x : Work) {l : List Foot} → l ≡ rest r a b
@@ -19,23 +21,22 @@ pub path-start : (f : Foot → Work → Work) (r : ℕ → Foot) (a b : ℕ) (x 
 path-start f r a b x e = record { rest = ap (λ (l : List Foot). inTurn f l x) (sym e) }
 
 -- ---- a row of stop s, where it leads, and how long it takes
-pub row-here : (l : Listing) {w : List ℕ} {n k s x j b : ℕ} → Leaving w n k s x → firstRow l w s ≤ j → j < b
+pub row-here : (l : Listing) {w : List ℕ} {o : Round} {s x j b : ℕ} → Leaving w o s x → firstRow l w s ≤ j → j < b
     → b ≡ pastRow l w s
     → OfStop l w s j
-row-here l h from g eb = of-stop l (omega (arith, h .stop, h .stops)) refl from eb g
+row-here l h from g eb = of-stop l (omega (arith, h .stop, h .round .fixed .stops)) refl from eb g
 
-module _ {w : List ℕ} {n k s x j u : ℕ} (h : Leaving w n k s x) where
-  pub transfer-in : OfStop transfers w s j → u ≡ (transferRow w j) .to → u < n
-  transfer-in o e = omega (arith, transfer-known (h .accepted) o e, h .stops)
+module _ {w : List ℕ} {o : Round} {s x j u : ℕ} (h : Leaving w o s x) where
+  pub path-in : (l : Footpaths) → OfStop (listingOf l) w s j → u ≡ (footRow l w j) .to → u < o .stops
+  unfolding listingOf footRow
+  path-in Transfers y e = omega (arith, transfer-known (h .round .fixed .accepted) y e, h .round .fixed .stops)
+  path-in Walks y e =
+      omega (arith, walk-known (h .round .fixed .accepted) (row-known walks (h .round .fixed .accepted .laid) y) e, h .round .fixed .stops)
 
-  pub transfer-most : OfStop transfers w s j → u ≡ (transferRow w j) .span → u ≤ 86_400
-  transfer-most o e = transfer-short (h .accepted) (row-known transfers (h .accepted .laid) o) e
-
-  pub walk-in : OfStop walks w s j → u ≡ (walkRow w j) .to → u < n
-  walk-in o e = omega (arith, walk-known (h .accepted) (row-known walks (h .accepted .laid) o) e, h .stops)
-
-  pub walk-most : OfStop walks w s j → u ≡ (walkRow w j) .span → u ≤ 86_400
-  walk-most o e = walk-short (h .accepted) (row-known walks (h .accepted .laid) o) e
+  pub path-most : (l : Footpaths) → OfStop (listingOf l) w s j → u ≡ (footRow l w j) .span → u ≤ 86_400
+  unfolding listingOf footRow
+  path-most Transfers y e = transfer-short (h .round .fixed .accepted) (row-known transfers (h .round .fixed .accepted .laid) y) e
+  path-most Walks y e = walk-short (h .round .fixed .accepted) (row-known walks (h .round .fixed .accepted .laid) y) e
 
 -- a footpath by what was read of its row
 pub row-path : (d : Direction) (n k target : ℕ) (c : LegType) (s x : ℕ) (r : Foot) (v : Work) {to span : ℕ} {u : Work}

@@ -33,7 +33,6 @@ module _ (n : Net) (k a b : ℕ) where
       stops-any walking ss (stopWork Arrival n k a walking s w)
       ∙ ap (stopsWork Arrival n k b walking ss) (stop-any walking s w)
 
-pub any-target : (n : Net) (k : ℕ) (walking : Bool) (w : Work) {x : Work} → x ≡ feetWork Arrival n k 0 walking w
-    → (target : ℕ) → x ≡ feetWork Arrival n k target walking w
+pub any-target : (n : Net) (k a b : ℕ) (walking : Bool) (w : Work) → feetWork Arrival n k a walking w ≡ feetWork Arrival n k b walking w
 unfolding feetWork
-any-target n k walking w e target = e ∙ stops-any n k 0 target walking _ w
+any-target n k a b walking w = stops-any n k a b walking _ w

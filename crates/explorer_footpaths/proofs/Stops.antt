@@ -19,11 +19,13 @@ use Rattle.model.specs.Work.{Work}
 use Rattle.allocator.specs.Layout.{view, heldOf, heldMarkOf}
 use Rattle.allocator.specs.Marked.{after}
 use Rattle.allocator.proofs.Visited.{after-next}
-use Rattle.explorer.specs.Fixed.{Fixed}
+use Rattle.explorer.specs.declared.Round.{Round}
+use Rattle.explorer.specs.Fixed.{InRound}
 use Rattle.explorer.specs.Fused.{pathsWork, stopWork, stopsWork, feetWork}
 use Rattle.explorer.specs.Turns.{inTurn, Turn}
 use Rattle.explorer.proofs.Turns.{mark-start, mark-next}
-use Rattle.explorer_footpaths.specs.Footing.{Label, Footing, Leaving, footFrom}
+use Rattle.explorer_footpaths.specs.declared.Footpaths.the-variants.{Transfers, Walks}
+use Rattle.explorer_footpaths.specs.Footing.{kindOf, footsOf, Label, Footing, Leaving, footFrom}
 use Rattle.explorer_footpaths.proofs.Held.{SameHeld, stop-held, paths-turn, stops-turn, label-held}
 
 -- ---- one stop
@@ -34,18 +36,18 @@ module _ (d : Direction) (t : Net) (k target s : ℕ) where
 
   module _ (n m : ℕ) (p q : List ℕ) {x : ℕ} {u : Work} (en : n ≡ t .stops)
       (ex : x ≡ getD (heldOf n m p) s 0)
-      (eu : u ≡ inTurn (footFrom d n k target Transfer s x) (t .transfers s) (view n m p q)) where
+      (eu : u ≡ inTurn (footFrom d n k target (kindOf Transfers) s x) (footsOf Transfers t s) (view n m p q)) where
     after-transfers : u ≡ pathsWork d t k target Transfer s (t .transfers s) (view n m p q)
-    unfolding view
+    unfolding view kindOf footsOf
     after-transfers = eu ∙ taken Transfer (t .transfers s) (view n m p q) en ex
 
     pub stop-only : {walking : Bool} → walking ≡ false → u ≡ stopWork d t k target walking s (view n m p q)
     unfolding stopWork
     stop-only e = after-transfers ∙ rw e
 
-    pub stop-walks : {walking : Bool} {y : Work} → walking ≡ true → y ≡ inTurn (footFrom d n k target Walk s x) (t .walks s) u
+    pub stop-walks : {walking : Bool} {y : Work} → walking ≡ true → y ≡ inTurn (footFrom d n k target (kindOf Walks) s x) (footsOf Walks t s) u
         → y ≡ stopWork d t k target walking s (view n m p q)
-    unfolding stopWork view
+    unfolding stopWork view kindOf footsOf
     stop-walks e ey =
         let held : x ≡ getD (u .held) s 0 =
         ex ∙ ap (λ (l : List ℕ). getD l s 0) (sym (label-held d t k target Transfer s (t .transfers s) (view n m p q)))
@@ -53,7 +55,7 @@ module _ (d : Direction) (t : Net) (k target s : ℕ) where
         ey ∙ taken Walk (t .walks s) u en held ∙ ap (pathsWork d t k target Walk s (t .walks s)) after-transfers ∙ rw e
 
 -- the label as it was read
-pub leaving-at : {w : List ℕ} {n k s x y : ℕ} → Leaving w n k s y → x ≡ y → Leaving w n k s x
+pub leaving-at : {w : List ℕ} {o : Round} {s x y : ℕ} → Leaving w o s y → x ≡ y → Leaving w o s x
 leaving-at h e = rw e h
 
 -- ---- what holds of every place set in a list of flags holds of the first one from i on
@@ -78,13 +80,14 @@ visited P i fs {s = s} h e f = front (subst (Each P) (after-next i fs (sym f ∙
     front (cons p h) = p
 
 -- a stop whose mark is held can be left
-pub leaving : (m : ℕ) (p q : List ℕ) (i : ℕ) {w : List ℕ} {n k s : ℕ} {a : Next} → Fixed w n m → k < 15
-    → Footing n (view n m p q) → a ≡ firstOf (after i (heldMarkOf n m q)) → a ≡ At s
-    → Leaving w n k s (getD (heldOf n m p) s 0)
+pub leaving : (p q : List ℕ) (i : ℕ) {w : List ℕ} {o : Round} {s : ℕ} {a : Next} → InRound w o
+    → Footing (o .stops) (view (o .stops) (o .routes) p q) → a ≡ firstOf (after i (heldMarkOf (o .stops) (o .routes) q)) → a ≡ At s
+    → Leaving w o s (getD (heldOf (o .stops) (o .routes) p) s 0)
 unfolding view
-leaving m p q i {n = n} {s = s} h lk z e f =
-    let o = visited (λ u. (u < n) × (0 < getD (heldOf n m p) u 0)) i (heldMarkOf n m q) (z .marked) e f in
-    record { accepted = h .accepted; stops = h .stops; round = lk; stop = o .0; label = record { some = o .1; most = z .most s (o .0) } }
+leaving p q i {o = o} {s = s} h z e f =
+    let g = visited (λ u. (u < o .stops) × (0 < getD (heldOf (o .stops) (o .routes) p) u 0)) i (heldMarkOf (o .stops) (o .routes) q)
+    (z .marked) e f in
+    record { round = h; stop = g .0; label = record { some = g .1; most = z .most s (g .0) } }
 
 -- ---- all stops
 module _ (d : Direction) (t : Net) (k target : ℕ) (walking : Bool) (n m : ℕ) where

@@ -1,20 +1,43 @@
 -- What footpaths are made from: the labels and marks that the rides of the round left, and what is known of these.
 use Prim.Native.Nat.{ℕ, _*_, _≤_, _<_}
-use mathlib.Core.Path.{_≡_}
 use mathlib.Core.List.{List}
 use lib.ListN.{getD}
 use Rattle.base.specs.Each.{Each}
 use Rattle.model.specs.declared.Direction.{Direction}
 use Rattle.model.specs.declared.LegType.{LegType}
+use Rattle.model.specs.declared.LegType.the-variants.{Transfer, Walk}
 use Rattle.model.specs.Tables.{Foot, Net}
 use Rattle.model.specs.Lists.{setIn}
 use Rattle.model.specs.Legs.{legOf}
 use Rattle.model.specs.Footpaths.{walked}
 use Rattle.model.specs.Work.{Work}
-use Rattle.repository.specs.Accepted.{Accepted}
-use Rattle.repository.specs.NetOf.{netOf}
+use Rattle.repository.specs.NetOf.{transferRow, walkRow}
+use Rattle.repository.specs.Rows.{Listing, transfers, walks}
+use Rattle.explorer.specs.declared.Round.{Round}
+use Rattle.explorer.specs.Fixed.{InRound}
 use Rattle.explorer.specs.Fused.{offered}
+use Rattle.explorer_footpaths.specs.declared.Footpaths.{Footpaths}
+use Rattle.explorer_footpaths.specs.declared.Footpaths.the-variants.{Transfers, Walks}
+use Rattle.explorer_footpaths.specs.declared.Foothold.{Foothold}
 
+-- ---- the two lists of footpaths: their rows in the tables, the kind of their legs, what row j says, what stands under stop s
+unfoldable pub listingOf : Footpaths → Listing
+listingOf Transfers = transfers
+listingOf Walks = walks
+
+unfoldable pub kindOf : Footpaths → LegType
+kindOf Transfers = Transfer
+kindOf Walks = Walk
+
+unfoldable pub footRow : Footpaths → List ℕ → ℕ → Foot
+footRow Transfers w j = transferRow w j
+footRow Walks w j = walkRow w j
+
+unfoldable pub footsOf : Footpaths → Net → ℕ → List Foot
+footsOf Transfers n s = n .transfers s
+footsOf Walks n s = n .walks s
+
+-- ---- where footpaths leave
 -- a moment of the timetable
 pub record Label (x : ℕ) : Type 0 where
   pub some : 0 < x
@@ -26,15 +49,17 @@ pub record Footing (n : ℕ) (w : Work) : Type 0 where
   pub most : (s : ℕ) → s < n → getD (w .held) s 0 ≤ 1_000_000
   pub marked : Each (λ s. (s < n) × (0 < getD (w .held) s 0)) (setIn 0 (w .heldMark))
 
--- stop s of the n stops of the tables w, which its label x lets a footpath leave in round k
-pub record Leaving (w : List ℕ) (n k s x : ℕ) : Type 0 where
-  pub accepted : Accepted w
-  pub stops : n ≡ netOf w .stops
-  pub round : k < 15
-  pub stop : s < n
+-- stop s, which its label x lets a footpath leave in the round o over the tables w
+pub record Leaving (w : List ℕ) (o : Round) (s x : ℕ) : Type 0 where
+  pub round : InRound w o
+  pub stop : s < o .stops
   pub label : Label x
 
 -- a footpath of kind c from stop s, whose label is x
 unfoldable pub footFrom : Direction → ℕ → ℕ → ℕ → LegType → ℕ → ℕ → Foot → Work → Work
 footFrom d n k target c s x f w =
     offered d (k * n) target (f .to) (walked d x (f .span)) (legOf d c s x (f .to) (walked d x (f .span))) w
+
+-- the same in a round o, from a foothold
+abbrev pub footBy : Round → Foothold → Foot → Work → Work
+footBy o g = footFrom (o .direction) (o .stops) (o .number) (o .target .0) (kindOf (g .list)) (g .stop) (g .label .0)

@@ -1,9 +1,8 @@
--- `explore_stops`: the stops from `at` on whose mark is held are left, and footpaths do not change which these are.
+-- `explore_transfers`: the stops from `at` on whose mark is held are left, and footpaths do not change which these are.
 use borrow.Author.Needs.{needs}
 use Prim.Native.Nat.{_-_}
 use mathlib.Core.Path.{_≡_}
 use lib.ListN.{length}
-use Rattle.shared.specs.declared.Time.{Time}
 use Rattle.repository.specs.NetOf.{netOf}
 use Rattle.allocator.specs.Layout.{view, heldMarkOf}
 use Rattle.allocator.specs.Marked.{after}
@@ -14,19 +13,20 @@ use Rattle.explorer.proofs.Turns.{mark-end}
 use Rattle.explorer.proofs.Marked.{held-long, visit-less, visit-fits, visit-past}
 use Rattle.explorer_footpaths.specs.Footing.{Footing}
 use Rattle.explorer_footpaths.proofs.Stops.{leaving, foot-start, foot-next, footing-held}
-use Rattle.explorer_footpaths.proofs.explore_stops.Statement.{statement}
-use Rattle.explorer_footpaths.proofs.explore_stops.Tie as tie
+use Rattle.explorer_footpaths.proofs.explore_transfers.Statement.{statement}
+use Rattle.explorer_footpaths.proofs.explore_transfers.Tie as tie
 
 abbrev Inv-loop : tie.InvT-loop
-Inv-loop tables words₀ marks₀ n m d k target walking at₀ words marks at =
-    Turn (stopWork d (netOf tables) k (target .0) walking)
-    (feetWork d (netOf tables) k (target .0) walking (view n m words₀ marks₀))
-    (after at (heldMarkOf n m marks)) (view n m words marks)
-    × Footing n (view n m words marks) × Usable n m words marks
+Inv-loop tables words₀ marks₀ round at₀ words marks at =
+    Turn (stopWork (round .direction) (netOf tables) (round .number) (round .target .0) (round .walking))
+    (feetWork (round .direction) (netOf tables) (round .number) (round .target .0) (round .walking)
+    (view (round .stops) (round .routes) words₀ marks₀))
+    (after at (heldMarkOf (round .stops) (round .routes) marks)) (view (round .stops) (round .routes) words marks)
+    × Footing (round .stops) (view (round .stops) (round .routes) words marks) × Usable (round .stops) (round .routes) words marks
     × (length words ≡ length words₀) × (length marks ≡ length marks₀)
 
 abbrev μ-loop : tie.MeasureT-loop
-μ-loop tables words₀ marks₀ n m d k target walking at₀ words marks at = n - at
+μ-loop tables words₀ marks₀ round at₀ words marks at = round .stops - at
 
 loop-holds : tie.Need-loop-holds Inv-loop μ-loop
 loop-holds c = (search (needs, foot-start), search needs, search needs, search needs, search needs)
@@ -64,8 +64,8 @@ same-length-2 c = search needs
 returns : tie.Need-returns Inv-loop μ-loop
 returns c = record { holds = search (needs, mark-end); usable = search needs }
 
-pub explore-stops-spec : {M : Type 1} → statement M
-explore-stops-spec =
+pub explore-transfers-spec : {M : Type 1} → statement M
+explore-transfers-spec =
     tie.close
     (tie.spec
     Inv-loop
