@@ -5,7 +5,7 @@ use mathlib.Core.List.{List}
 use Prim.Native.Nat.{ℕ, _+_, _*_}
 use native.Mathlib.Omega.{arith}
 use Rattle.allocator.specs.Layout.{pages, Words, Marks, prevOf, currOf, bestOf, heldOf, activeOf, parentsOf, markOf, heldMarkOf, maskOf, view}
-use Rattle.allocator.specs.Parts.{withPrev, withCurr, withBest, withMark, withHeld, withHeldMark, withActive, withMask, withParents}
+use Rattle.allocator.specs.Parts.{withPrev, withCurr, withBest, withMarks, withHeld, withHeldMark, withActive, withMask, withParents}
 use Rattle.allocator.proofs.Sections.{Only, sect-before, sect-behind}
 
 -- ---- a section of the words
@@ -78,8 +78,8 @@ module _ (s r : ℕ) (w v m : List ℕ) (z : Words s r w) where
 
 -- ---- a section of the marks
 module _ (s r : ℕ) (w m v : List ℕ) (z : Marks s r m) where
-  pub change-mark : Only 0 (pages s) m v → view s r w v ≡ withMark (markOf s r v) (view s r w m)
-  unfolding view markOf heldMarkOf maskOf withMark
+  pub change-mark : Only 0 (pages s) m v → view s r w v ≡ withMarks (markOf s r v) (view s r w m)
+  unfolding view markOf heldMarkOf maskOf withMarks
   change-mark c =
       cc (
         sect-behind c (pages s) (pages s) (omega arith) (omega arith),

@@ -9,7 +9,7 @@ use native.Mathlib.Omega.{arith}
 use lib.ListN.{length, replicate, length-replicate}
 use Rattle.model.specs.declared.Direction.{Direction}
 use Rattle.model.specs.Moments.{MAX}
-use Rattle.allocator.specs.Sections.{sect, put}
+use Rattle.allocator.specs.Sections.{sect, overlaid}
 use Rattle.allocator.specs.Rows.{encoded, decoded, rowOf, parentIn, parents}
 use Rattle.allocator.specs.Layout.{pages, Sized, prevOf, currOf, bestOf, heldOf, activeOf, parentsOf, markOf, heldMarkOf, maskOf, view}
 use Rattle.allocator.specs.Tidy.{Rows, Tidy}
@@ -38,9 +38,9 @@ module _ (n : ℕ) where
 
 -- the words in three fills, the marks in one
 module _ (s r x : ℕ) (d : Direction) (w m u₁ u₂ : List ℕ) {v n : List ℕ} (z : Sized s r w m) (ex : x ≡ blank d)
-    (e₁ : u₁ ≡ put 0 (replicate (4 * s - 0) 0) w) (e₂ : u₂ ≡ put (4 * s) (replicate (4 * s + r - 4 * s) x) u₁)
-    (e₃ : v ≡ put (4 * s + r) (replicate (4 * s + r + 90 * s - (4 * s + r)) MAX) u₂) (p q : ℕ) (ep : p ≡ pages s)
-    (eq : q ≡ pages r) (em : n ≡ put 0 (replicate (2 * p + q - 0) 0) m) where
+    (e₁ : u₁ ≡ overlaid 0 (replicate (4 * s - 0) 0) w) (e₂ : u₂ ≡ overlaid (4 * s) (replicate (4 * s + r - 4 * s) x) u₁)
+    (e₃ : v ≡ overlaid (4 * s + r) (replicate (4 * s + r + 90 * s - (4 * s + r)) MAX) u₂) (p q : ℕ) (ep : p ≡ pages s)
+    (eq : q ≡ pages r) (em : n ≡ overlaid 0 (replicate (2 * p + q - 0) 0) m) where
   record Filled : Type 0 where
     pub low : (a : ℕ) → a + s ≤ 4 * s → sect a s v ≡ replicate s 0
     pub mid : sect (4 * s) r v ≡ replicate r (blank d)
@@ -83,7 +83,7 @@ module _ (s r x : ℕ) (d : Direction) (w m u₁ u₂ : List ℕ) {v n : List �
           sect-before c₃ a s (omega arith) (omega (arith, c₁ .long, c₂ .long))
           ∙ sect-before c₂ a s h (omega (arith, c₁ .long))
           ∙ ap (sect a s) e₁
-          ∙ ap (λ (k : ℕ). sect k s (put 0 (replicate (4 * s - 0) 0) w)) (sym (zero-add a))
+          ∙ ap (λ (k : ℕ). sect k s (overlaid 0 (replicate (4 * s - 0) 0) w)) (sym (zero-add a))
           ∙ put-sect 0 (replicate (4 * s - 0) 0) w (omega (arith, l₁)) a s (omega (arith, l₁))
           ∙ sect-replicate a s (4 * s - 0) 0 (omega arith)
 
@@ -106,8 +106,8 @@ module _ (s r x : ℕ) (d : Direction) (w m u₁ u₂ : List ℕ) {v n : List �
       none : (a b : ℕ) → a + b ≤ 2 * pages s + pages r → sect a b n ≡ replicate b 0
       none a b h =
           let k : 2 * p + q - 0 ≡ length m = omega arith in
-          ap (sect a b) (em ∙ ap (λ (x : ℕ). put 0 (replicate x 0) m) k)
-          ∙ ap (λ (x : ℕ). sect x b (put 0 (replicate (length m) 0) m)) (sym (zero-add a))
+          ap (sect a b) (em ∙ ap (λ (x : ℕ). overlaid 0 (replicate x 0) m) k)
+          ∙ ap (λ (x : ℕ). sect x b (overlaid 0 (replicate (length m) 0) m)) (sym (zero-add a))
           ∙ put-sect 0 (replicate (length m) 0) m (omega (arith, length-replicate {A = ℕ} (length m) 0)) a b
           (omega (arith, length-replicate {A = ℕ} (length m) 0))
           ∙ sect-replicate a b (length m) 0 (omega arith)

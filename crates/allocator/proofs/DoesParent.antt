@@ -10,7 +10,7 @@ use lib.Dec.{eqb, ltb}
 use lib.ListN.{set}
 use Rattle.base.specs.Choice.{split}
 use Rattle.model.specs.declared.Leg.{Leg}
-use Rattle.allocator.specs.Sections.{sect, put}
+use Rattle.allocator.specs.Sections.{sect, overlaid}
 use Rattle.allocator.specs.Rows.{legRow, encoded, decoded, rowOf, parentIn, parents}
 use Rattle.allocator.specs.Layout.{Sized, parentsOf, view}
 use Rattle.allocator.specs.Tidy.{Rows}
@@ -24,7 +24,7 @@ use Rattle.allocator.proofs.Became.{Became, words-sized}
 module _ (s r : ℕ) (w m : List ℕ) (z : Sized s r w m) (i : ℕ) (g : Leg) (inside : i < 15 * s) where
   -- the words with the row of g
   new : List ℕ
-  new = put (4 * s + r + i * 6) (encoded (some g)) w
+  new = overlaid (4 * s + r + i * 6) (encoded (some g)) w
 
   old-rows : List ℕ
   old-rows = sect (4 * s + r) (90 * s) w
@@ -81,7 +81,7 @@ module _ (s r : ℕ) (w m : List ℕ) (z : Sized s r w m) (i : ℕ) (g : Leg) (i
           kept ∙ t .written j h ∙ ap (λ (x : List ℕ). encoded (decoded x)) (sym kept))
 
   pub does-parent : Became s r (λ x. withParents (set (x .parents) i (some g)) x) w m
-      (put (4 * s + r + i * 6) (legRow g) w) m
+      (overlaid (4 * s + r + i * 6) (legRow g) w) m
   unfolding view parentsOf encoded new old-rows new-rows
   does-parent = record {
     is =

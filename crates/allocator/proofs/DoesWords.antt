@@ -5,7 +5,7 @@ use mathlib.Core.List.{List}
 use Prim.Native.Nat.{ℕ, _+_, _*_, _≤_, _<_}
 use native.Mathlib.Omega.{arith}
 use lib.ListN.{length, set}
-use Rattle.allocator.specs.Sections.{put}
+use Rattle.allocator.specs.Sections.{overlaid}
 use Rattle.allocator.specs.Layout.{Sized, prevOf, currOf, bestOf, heldOf, activeOf, view}
 use Rattle.allocator.specs.Parts.{withPrev, withCurr, withBest, withHeld, withActive}
 use Rattle.allocator.proofs.Sections.{Only, only-set, only-whole, sect-whole-put, set-sect, sect-behind}
@@ -53,42 +53,42 @@ module _ (s r : ℕ) (w m : List ℕ) (z : Sized s r w m) where
 
   -- ---- a whole section
   module _ (xs : List ℕ) where
-    pub does-prevs : length xs ≡ s → Became s r (withPrev xs) w m (put 0 xs w) m
+    pub does-prevs : length xs ≡ s → Became s r (withPrev xs) w m (overlaid 0 xs w) m
     unfolding prevOf
     does-prevs l =
         let c = only-whole 0 s w xs l (omega arith) in
         record {
-          is = change-prev s r w (put 0 xs w) m (z .words) c ∙ rw (sect-whole-put 0 s w xs l (omega arith));
+          is = change-prev s r w (overlaid 0 xs w) m (z .words) c ∙ rw (sect-whole-put 0 s w xs l (omega arith));
           kept = rows-kept c (omega arith);
           sized = words-sized z (c .long);
         }
 
-    pub does-currs : length xs ≡ s → Became s r (withCurr xs) w m (put s xs w) m
+    pub does-currs : length xs ≡ s → Became s r (withCurr xs) w m (overlaid s xs w) m
     unfolding currOf
     does-currs l =
         let c = only-whole s s w xs l (omega arith) in
         record {
-          is = change-curr s r w (put s xs w) m (z .words) c ∙ rw (sect-whole-put s s w xs l (omega arith));
+          is = change-curr s r w (overlaid s xs w) m (z .words) c ∙ rw (sect-whole-put s s w xs l (omega arith));
           kept = rows-kept c (omega arith);
           sized = words-sized z (c .long);
         }
 
-    pub does-helds : length xs ≡ s → Became s r (withHeld xs) w m (put (3 * s) xs w) m
+    pub does-helds : length xs ≡ s → Became s r (withHeld xs) w m (overlaid (3 * s) xs w) m
     unfolding heldOf
     does-helds l =
         let c = only-whole (3 * s) s w xs l (omega arith) in
         record {
-          is = change-held s r w (put (3 * s) xs w) m (z .words) c ∙ rw (sect-whole-put (3 * s) s w xs l (omega arith));
+          is = change-held s r w (overlaid (3 * s) xs w) m (z .words) c ∙ rw (sect-whole-put (3 * s) s w xs l (omega arith));
           kept = rows-kept c (omega arith);
           sized = words-sized z (c .long);
         }
 
-    pub does-actives : length xs ≡ r → Became s r (withActive xs) w m (put (4 * s) xs w) m
+    pub does-actives : length xs ≡ r → Became s r (withActive xs) w m (overlaid (4 * s) xs w) m
     unfolding activeOf
     does-actives l =
         let c = only-whole (4 * s) r w xs l (omega arith) in
         record {
-          is = change-active s r w (put (4 * s) xs w) m (z .words) c ∙ rw (sect-whole-put (4 * s) r w xs l (omega arith));
+          is = change-active s r w (overlaid (4 * s) xs w) m (z .words) c ∙ rw (sect-whole-put (4 * s) r w xs l (omega arith));
           kept = rows-kept c (omega arith);
           sized = words-sized z (c .long);
         }

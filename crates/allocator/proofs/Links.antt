@@ -11,7 +11,7 @@ use Rattle.model.specs.State.{Task, Labels, State}
 use Rattle.model.specs.Work.{Work, workOf}
 use Rattle.model.specs.Choosing.{fresh}
 use Rattle.model.specs.Search.{starting, begun, ended}
-use Rattle.allocator.specs.Parts.{withPrev, withCurr, withMark}
+use Rattle.allocator.specs.Parts.{withPrev, withCurr, withMarks}
 use Rattle.allocator.specs.Operations.{blank, cleared, started, swapped}
 use Rattle.allocator.specs.Repeated.{startedAll}
 
@@ -35,7 +35,7 @@ module _ (n : Net) (q : Task) where
   }
 
   starting-is : (ss : List ℕ) (w : Work) → labelled (starting n q ss (w .labels)) w ≡ startedAll (q .moment) ss w
-  unfolding labelled starting startedAll started withMark withCurr
+  unfolding labelled starting startedAll started withMarks withCurr
   starting-is [] w = refl
   starting-is (s ∷ ss) w = starting-is ss (started s (q .moment) w)
 

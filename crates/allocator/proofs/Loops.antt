@@ -11,17 +11,17 @@ use lib.Dec.{ltb}
 use lib.ListN.{length, getD, set, drop, replicate, length-replicate, replicate-append-replicate, length-drop, take-append-drop}
 use lib.Seq.{take-suc, getD-drop}
 use Rattle.base.specs.Choice.{split}
-use Rattle.allocator.specs.Sections.{sect, put}
+use Rattle.allocator.specs.Sections.{sect, overlaid}
 use Rattle.allocator.proofs.Sections.{sect-length, put-more, put-before, put-behind}
 
-nothing : (o : ℕ) (w : List ℕ) → w ≡ put o [] w
-unfolding put
+nothing : (o : ℕ) (w : List ℕ) → w ≡ overlaid o [] w
+unfolding overlaid
 nothing o w = rw add-zero (sym (take-append-drop o w))
 
 -- ---- v stands from a up to below i
 pub record Filled (a v : ℕ) (w₀ w : List ℕ) (i : ℕ) : Type 0 where
   pub from : a ≤ i
-  pub is : w ≡ put a (replicate (i - a) v) w₀
+  pub is : w ≡ overlaid a (replicate (i - a) v) w₀
 
 pub fill-start : (a v : ℕ) (w : List ℕ) → Filled a v w w a
 fill-start a v w =
@@ -40,17 +40,17 @@ module _ {a v : ℕ} {w₀ w : List ℕ} {i : ℕ} (f : Filled a v w₀ w i) whe
         from = omega (arith, f .from);
         is =
             ap (λ (x : List ℕ). set x i v) (f .is)
-            ∙ ap (λ (x : ℕ). set (put a (replicate k v) w₀) x v) (sym here)
+            ∙ ap (λ (x : ℕ). set (overlaid a (replicate k v) w₀) x v) (sym here)
             ∙ put-more a (replicate k v) w₀ (omega arith) v (omega arith)
-            ∙ ap (λ (x : List ℕ). put a x w₀) longer;
+            ∙ ap (λ (x : List ℕ). overlaid a x w₀) longer;
       }
 
-  pub fill-end : (e : ℕ) → i ≤ e → e ≤ i → w ≡ put a (replicate (e - a) v) w₀
+  pub fill-end : (e : ℕ) → i ≤ e → e ≤ i → w ≡ overlaid a (replicate (e - a) v) w₀
   fill-end e h g = let same : i ≡ e = omega arith in rw (← same) (f .is)
 
 -- ---- the i elements from a on stand at b and on, too
 pub record Copied (a b : ℕ) (w₀ w : List ℕ) (i : ℕ) : Type 0 where
-  pub is : w ≡ put b (sect a i w₀) w₀
+  pub is : w ≡ overlaid b (sect a i w₀) w₀
 
 pub copy-start : (a b : ℕ) (w : List ℕ) → Copied a b w w 0
 unfolding sect
@@ -73,19 +73,19 @@ module _ {a b : ℕ} {w₀ w : List ℕ} {i : ℕ} (f : Copied a b w₀ w i) whe
       record {
         is =
             ap (λ (y : List ℕ). set y (b + i) (getD y (a + i) 0)) (f .is)
-            ∙ ap (λ (y : ℕ). set (put b part w₀) (b + i) y) (read n h g k apart)
-            ∙ ap (λ (y : ℕ). set (put b part w₀) (b + y) x) (sym count)
+            ∙ ap (λ (y : ℕ). set (overlaid b part w₀) (b + i) y) (read n h g k apart)
+            ∙ ap (λ (y : ℕ). set (overlaid b part w₀) (b + y) x) (sym count)
             ∙ put-more b part w₀ (omega arith) x (omega arith)
-            ∙ ap (λ (y : List ℕ). put b y w₀) (sym (one-more a i w₀ (omega arith)));
+            ∙ ap (λ (y : List ℕ). overlaid b y w₀) (sym (one-more a i w₀ (omega arith)));
       }
     where
       read : (n : ℕ) → i < n → a + n ≤ length w₀ → b + n ≤ length w₀ → n ≤ (a - b) + (b - a)
-          → getD (put b (sect a i w₀) w₀) (a + i) 0 ≡ getD w₀ (a + i) 0
+          → getD (overlaid b (sect a i w₀) w₀) (a + i) 0 ≡ getD w₀ (a + i) 0
       read n h g k apart =
           let count = sect-length a i w₀ (omega arith) in
           split (ltb a b)
           (λ l. let l′ = ltb-true a b l in put-before b (sect a i w₀) w₀ (omega arith) (a + i) (omega arith))
           (λ l. let l′ = ltb-false a b l in put-behind b (sect a i w₀) w₀ (omega arith) (a + i) (omega arith))
 
-  pub copy-end : (n : ℕ) → i ≤ n → n ≤ i → w ≡ put b (sect a n w₀) w₀
+  pub copy-end : (n : ℕ) → i ≤ n → n ≤ i → w ≡ overlaid b (sect a n w₀) w₀
   copy-end n h g = let same : i ≡ n = omega arith in rw (← same) (f .is)

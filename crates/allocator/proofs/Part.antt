@@ -6,11 +6,11 @@ use Prim.Native.Nat.{ℕ, _+_, _-_, _≤_}
 use native.Mathlib.Omega.{arith}
 use lib.ListN.{length, take, drop, replicate, length-replicate}
 use borrow.Rule.Slice.PartMut.{midOf, putMid, post-is, mid-len}
-use Rattle.allocator.specs.Sections.{put}
+use Rattle.allocator.specs.Sections.{overlaid}
 
 pub part-cleared : (a e : ℕ) (l left : List ℕ) → a ≤ e → e ≤ length l → left ≡ replicate (length (midOf a (e - a) l)) 0
-    → putMid a (e - a) l left ≡ put a (replicate (e - a) 0) l
-unfolding put
+    → putMid a (e - a) l left ≡ overlaid a (replicate (e - a) 0) l
+unfolding overlaid
 part-cleared a e l left h g z =
     let n = e - a in
     let end : a + length {A = ℕ} (replicate n 0) ≡ e = omega (arith, length-replicate {A = ℕ} n 0) in

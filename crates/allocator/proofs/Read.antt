@@ -17,7 +17,7 @@ use Rattle.model.specs.declared.LegType.the-variants.{Transit, Transfer, Walk}
 use Rattle.allocator.specs.declared.Parent.{Parent}
 use Rattle.allocator.specs.declared.Parent.the-variants.{Leg as By, Nothing as Absent}
 use Rattle.allocator.specs.Sections.{sect}
-use Rattle.allocator.specs.Rows.{legIn, decoded, rowOf, parentIn, parents, parentOf}
+use Rattle.allocator.specs.Rows.{rowLeg, decoded, rowOf, parentIn, parents, parentOf}
 use Rattle.allocator.specs.Layout.{pages, Words, prevOf, currOf, bestOf, heldOf, activeOf, parentsOf, markOf, heldMarkOf, maskOf}
 use Rattle.allocator.specs.Marked.{after}
 use Rattle.allocator.proofs.Sections.{sect-get, sect-sect}
@@ -81,8 +81,8 @@ pub leg-read : (c : LegType) (w : List ℕ) (i : ℕ) →
       arrival = record { 0 = getD w (i + 5) 0 };
       kind = c;
     }
-    ≡ legIn c (sect i 6 w)
-unfolding legIn
+    ≡ rowLeg c (sect i 6 w)
+unfolding rowLeg
 leg-read c w i =
     rw (
       sect-get i 6 w 1 (lit< tt),
@@ -95,17 +95,17 @@ module _ (w : List ℕ) (i : ℕ) where
   kind-is : (k : ℕ) → getD w i 0 ≡ k → getD (sect i 6 w) 0 0 ≡ k
   kind-is k e = sect-get i 6 w 0 (lit< tt) ∙ ap (λ (x : ℕ). getD w x 0) (add-zero i) ∙ e
 
-  pub read-ride : {g : Leg} → getD w i 0 ≡ 1 → g ≡ legIn (Transit (getD w (i + 3) 0)) (sect i 6 w)
+  pub read-ride : {g : Leg} → getD w i 0 ≡ 1 → g ≡ rowLeg (Transit (getD w (i + 3) 0)) (sect i 6 w)
       → By g ≡ parentOf (decoded (sect i 6 w))
   unfolding decoded parentOf
   read-ride e f = rw (kind-is 1 e, sect-get i 6 w 3 (lit< tt), f)
 
-  pub read-transfer : {g : Leg} → getD w i 0 ≡ 2 → g ≡ legIn Transfer (sect i 6 w)
+  pub read-transfer : {g : Leg} → getD w i 0 ≡ 2 → g ≡ rowLeg Transfer (sect i 6 w)
       → By g ≡ parentOf (decoded (sect i 6 w))
   unfolding decoded parentOf
   read-transfer e f = rw (kind-is 2 e, f)
 
-  pub read-walk : {g : Leg} → getD w i 0 ≡ 3 → g ≡ legIn Walk (sect i 6 w) → By g ≡ parentOf (decoded (sect i 6 w))
+  pub read-walk : {g : Leg} → getD w i 0 ≡ 3 → g ≡ rowLeg Walk (sect i 6 w) → By g ≡ parentOf (decoded (sect i 6 w))
   unfolding decoded parentOf
   read-walk e f = rw (kind-is 3 e, f)
 

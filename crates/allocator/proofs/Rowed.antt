@@ -10,13 +10,13 @@ use lib.Seq.{sets-eq}
 use Rattle.model.specs.declared.Leg.{Leg}
 use Rattle.model.specs.declared.LegType.{LegType}
 use Rattle.model.specs.declared.LegType.the-variants.{Transit, Transfer, Walk}
-use Rattle.allocator.specs.Sections.{put}
-use Rattle.allocator.specs.Rows.{kindWord, tripWord, legRow, encoded, legIn, decoded}
+use Rattle.allocator.specs.Sections.{overlaid}
+use Rattle.allocator.specs.Rows.{rowKind, rowTrip, legRow, encoded, rowLeg, decoded}
 
 read-back : (c : LegType) (a b d e : ℕ) →
-    decoded (kindWord c ∷ a ∷ b ∷ tripWord c ∷ d ∷ e ∷ [])
+    decoded (rowKind c ∷ a ∷ b ∷ rowTrip c ∷ d ∷ e ∷ [])
     ≡ some (record { from = a; to = b; departure = record { 0 = d }; arrival = record { 0 = e }; kind = c })
-unfolding decoded legIn kindWord tripWord
+unfolding decoded rowLeg rowKind rowTrip
 read-back (Transit v) a b d e = refl
 read-back Transfer a b d e = refl
 read-back Walk a b d e = refl
@@ -34,8 +34,8 @@ encoded-length (some g) = refl
 -- six stores in a row write a row
 pub six-stores : (w : List ℕ) (i a b c d e f : ℕ) → i + 6 ≤ length w
     → set (set (set (set (set (set w i a) (i + 1) b) (i + 2) c) (i + 3) d) (i + 4) e) (i + 5) f
-    ≡ put i (a ∷ b ∷ c ∷ d ∷ e ∷ f ∷ []) w
-unfolding put
+    ≡ overlaid i (a ∷ b ∷ c ∷ d ∷ e ∷ f ∷ []) w
+unfolding overlaid
 six-stores w i a b c d e f h =
     let i₁ : i + 1 ≡ suc i = omega arith in
     let i₂ : i + 2 ≡ suc (suc i) = omega arith in
@@ -46,9 +46,9 @@ six-stores w i a b c d e f h =
     rw (i₁, i₂, i₃, i₄, i₅) (sets-eq row w i h) ∙ append-assoc (take i w) row (drop (i + 6) w)
 
 -- the words of a leg, as the code finds them
-pub leg-stores : (w : List ℕ) (i k v : ℕ) (g : Leg) → i + 6 ≤ length w → k ≡ kindWord (g .kind) → v ≡ tripWord (g .kind)
+pub leg-stores : (w : List ℕ) (i k v : ℕ) (g : Leg) → i + 6 ≤ length w → k ≡ rowKind (g .kind) → v ≡ rowTrip (g .kind)
     → set (set (set (set (set (set w i k) (i + 1) (g .from)) (i + 2) (g .to)) (i + 3) v) (i + 4) (g .departure .0)) (i + 5)
     (g .arrival .0)
-    ≡ put i (legRow g) w
+    ≡ overlaid i (legRow g) w
 unfolding legRow
 leg-stores w i k v g h e f = six-stores w i k (g .from) (g .to) v (g .departure .0) (g .arrival .0) h ∙ rw (e, f)

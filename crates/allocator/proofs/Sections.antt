@@ -7,7 +7,7 @@ use native.Mathlib.Nat.{zero-add, add-zero, add-assoc}
 use native.Mathlib.Omega.{arith}
 use lib.ListN.{length, getD, set, take, drop, replicate, length-append, length-take, length-drop, length-set, length-replicate, getD-replicate, List·getD-append}
 use lib.Seq.{length-take-le, getD-take, getD-drop, getD-append-add, getD-set-other, drop-set-add, take-set-lt, ext-getD, drop-cons, append-snoc, set-at}
-use Rattle.allocator.specs.Sections.{sect, put}
+use Rattle.allocator.specs.Sections.{sect, overlaid}
 
 -- ---- reading
 module _ (o n : ℕ) (w : List ℕ) where
@@ -57,26 +57,26 @@ module _ (o : ℕ) (xs w : List ℕ) (fits : o + length xs ≤ length w) where
   front : length (take o w) ≡ o
   front = length-take-le o w (omega arith)
 
-  pub put-length : length (put o xs w) ≡ length w
-  unfolding put
+  pub put-length : length (overlaid o xs w) ≡ length w
+  unfolding overlaid
   put-length = let f = front in simp (length-append, length-drop) (omega arith)
 
-  pub put-before : (i : ℕ) → i < o → getD (put o xs w) i 0 ≡ getD w i 0
-  unfolding put
+  pub put-before : (i : ℕ) → i < o → getD (overlaid o xs w) i 0 ≡ getD w i 0
+  unfolding overlaid
   put-before i h =
       let f = front in
       List·getD-append (take o w) (xs ++ drop (o + length xs) w) 0 i (omega arith) ∙ getD-take o w i 0 h
 
-  put-at : (i : ℕ) → i < length xs → getD (put o xs w) (o + i) 0 ≡ getD xs i 0
-  unfolding put
+  put-at : (i : ℕ) → i < length xs → getD (overlaid o xs w) (o + i) 0 ≡ getD xs i 0
+  unfolding overlaid
   put-at i h =
       let rest = drop (o + length xs) w in
       ap (λ (x : ℕ). getD (take o w ++ (xs ++ rest)) (x + i) 0) (sym front)
       ∙ getD-append-add (take o w) (xs ++ rest) i 0
       ∙ List·getD-append xs rest 0 i h
 
-  pub put-behind : (i : ℕ) → o + length xs ≤ i → getD (put o xs w) i 0 ≡ getD w i 0
-  unfolding put
+  pub put-behind : (i : ℕ) → o + length xs ≤ i → getD (overlaid o xs w) i 0 ≡ getD w i 0
+  unfolding overlaid
   put-behind i h =
       let rest = drop (o + length xs) w in
       let k = i - (o + length xs) in
@@ -90,15 +90,15 @@ module _ (o : ℕ) (xs w : List ℕ) (fits : o + length xs ≤ length w) where
       ∙ ap (λ (x : ℕ). getD w x 0) back
 
   -- what was written is read there
-  pub put-sect : (k b : ℕ) → k + b ≤ length xs → sect (o + k) b (put o xs w) ≡ sect k b xs
+  pub put-sect : (k b : ℕ) → k + b ≤ length xs → sect (o + k) b (overlaid o xs w) ≡ sect k b xs
   put-sect k b h =
       let long = put-length in
-      same-sect (o + k) k b (put o xs w) xs (omega arith) h
-      (λ i l. ap (λ (x : ℕ). getD (put o xs w) x 0) (add-assoc o k i) ∙ put-at (k + i) (omega arith))
+      same-sect (o + k) k b (overlaid o xs w) xs (omega arith) h
+      (λ i l. ap (λ (x : ℕ). getD (overlaid o xs w) x 0) (add-assoc o k i) ∙ put-at (k + i) (omega arith))
 
   -- one element more
-  pub put-more : (v : ℕ) → o + length xs < length w → set (put o xs w) (o + length xs) v ≡ put o (xs ++ (v ∷ [])) w
-  unfolding put
+  pub put-more : (v : ℕ) → o + length xs < length w → set (overlaid o xs w) (o + length xs) v ≡ overlaid o (xs ++ (v ∷ [])) w
+  unfolding overlaid
   put-more v h =
       let e = o + length xs in
       let rest = drop (suc e) w in
@@ -127,7 +127,7 @@ only-set o n w i v h = record {
 }
 
 pub only-put : (o n : ℕ) (w : List ℕ) (k : ℕ) (xs : List ℕ) → k + length xs ≤ n → o + n ≤ length w
-    → Only o n w (put (o + k) xs w)
+    → Only o n w (overlaid (o + k) xs w)
 only-put o n w k xs h g =
     let f : o + k + length xs ≤ length w = omega arith in
     record {
@@ -138,7 +138,7 @@ only-put o n w k xs h g =
 
 -- a whole section is written
 module _ (o n : ℕ) (w xs : List ℕ) (long : length xs ≡ n) (fits : o + n ≤ length w) where
-  pub only-whole : Only o n w (put o xs w)
+  pub only-whole : Only o n w (overlaid o xs w)
   only-whole =
       let f : o + length xs ≤ length w = omega arith in
       record {
@@ -147,10 +147,10 @@ module _ (o n : ℕ) (w xs : List ℕ) (long : length xs ≡ n) (fits : o + n �
         behind = λ j l. put-behind o xs w f j (omega arith);
       }
 
-  pub sect-whole-put : sect o n (put o xs w) ≡ xs
+  pub sect-whole-put : sect o n (overlaid o xs w) ≡ xs
   sect-whole-put =
       let all : n ≡ length xs = omega arith in
-      ap (λ (x : ℕ). sect x n (put o xs w)) (sym (add-zero o))
+      ap (λ (x : ℕ). sect x n (overlaid o xs w)) (sym (add-zero o))
       ∙ put-sect o xs w (omega arith) 0 n (omega arith)
       ∙ sect-whole xs n all
 

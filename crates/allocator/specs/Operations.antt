@@ -12,7 +12,7 @@ use Rattle.model.specs.Moments.{MAX}
 use Rattle.model.specs.Work.{Work}
 use Rattle.model.specs.Applying.{wins, apply1}
 use Rattle.model.specs.Choosing.{Chosen, choose1}
-use Rattle.allocator.specs.Parts.{withPrev, withCurr, withBest, withMark, withHeld, withHeldMark, withActive, withMask, withParents}
+use Rattle.allocator.specs.Parts.{withPrev, withCurr, withBest, withMarks, withHeld, withHeldMark, withActive, withMask, withParents}
 
 -- ---- at the start of a query
 -- how a route's mark is filled: "all ones, or 0"
@@ -34,7 +34,7 @@ cleared s r d = record {
 
 -- "the start stops get the query moment as current label and a mark. Their best moment stays absent."
 unfoldable pub started : ℕ → ℕ → Work → Work
-started i t w = withMark (set (w .labels .mark) i true) (withCurr (set (w .labels .curr) i t) w)
+started i t w = withMarks (set (w .labels .mark) i true) (withCurr (set (w .labels .curr) i t) w)
 
 -- ---- at the start of a round
 -- "swap labels and clear the current ones"
@@ -46,9 +46,9 @@ unfoldable pub unmasked : ℕ → Work → Work
 unmasked r w = withMask (replicate r false) w
 
 -- "In the source's mode the marks .. are filled once per query"; in rescan mode they "are refilled before every round"
-unfoldable pub refilled : Mode → ℕ → Direction → Work → Work
-refilled Source r d w = w
-refilled Rescan r d w = withActive (replicate r (blank d)) w
+unfoldable pub refreshed : Mode → ℕ → Direction → Work → Work
+refreshed Source r d w = w
+refreshed Rescan r d w = withActive (replicate r (blank d)) w
 
 -- each route's mark, and which routes the round scans
 unfoldable pub chosenOf : Work → Chosen
@@ -63,7 +63,7 @@ activated d r p w = withChosen (choose1 d r p (chosenOf w)) w
 
 -- "clear marks"
 unfoldable pub unmarked : ℕ → Work → Work
-unmarked s w = withMark (replicate s false) w
+unmarked s w = withMarks (replicate s false) w
 
 -- ---- within a round
 -- the labels and marks as the rides left them are held for the footpaths
@@ -74,7 +74,7 @@ holding w = withHeldMark (w .labels .mark) (withHeld (w .labels .curr) w)
 unfoldable pub stored : ℕ → ℕ → ℕ → Leg → Work → Work
 stored row i m g w =
     withParents (set (w .parents) (row + i) (some g))
-    (withMark (set (w .labels .mark) i true)
+    (withMarks (set (w .labels .mark) i true)
     (withBest (set (w .labels .best) i m) (withCurr (set (w .labels .curr) i m) w)))
 
 -- the same if it wins: one step of the model's `applyAll` and `keepAll`. "Applying is strict: a tie keeps the parent."

@@ -39,8 +39,8 @@ withBest x w = record {
   parents = w .parents;
 }
 
-unfoldable pub withMark : List Bool → Work → Work
-withMark x w = record {
+unfoldable pub withMarks : List Bool → Work → Work
+withMarks x w = record {
   prev = w .prev;
   labels = record { curr = w .labels .curr; best = w .labels .best; mark = x };
   held = w .held;

@@ -15,20 +15,20 @@ use Rattle.allocator.specs.declared.Parent.the-variants.{Leg as By, Noth
 use Rattle.allocator.specs.Sections.{sect}
 
 -- the kinds have the numbers that they have in the journey bytes
-unfoldable pub kindWord : LegType → ℕ
-kindWord (Transit v) = 1
-kindWord Transfer = 2
-kindWord Walk = 3
+unfoldable pub rowKind : LegType → ℕ
+rowKind (Transit v) = 1
+rowKind Transfer = 2
+rowKind Walk = 3
 
 -- a footpath has no trip
-unfoldable pub tripWord : LegType → ℕ
-tripWord (Transit v) = v
-tripWord Transfer = 0
-tripWord Walk = 0
+unfoldable pub rowTrip : LegType → ℕ
+rowTrip (Transit v) = v
+rowTrip Transfer = 0
+rowTrip Walk = 0
 
 -- the row of a leg
 unfoldable pub legRow : Leg → List ℕ
-legRow g = kindWord (g .kind) ∷ g .from ∷ g .to ∷ tripWord (g .kind) ∷ g .departure .0 ∷ g .arrival .0 ∷ []
+legRow g = rowKind (g .kind) ∷ g .from ∷ g .to ∷ rowTrip (g .kind) ∷ g .departure .0 ∷ g .arrival .0 ∷ []
 
 unfoldable pub encoded : Option Leg → List ℕ
 unfolding legRow
@@ -36,8 +36,8 @@ encoded none = replicate 6 MAX
 encoded (some g) = legRow g
 
 -- the leg of a row, by its kind
-unfoldable pub legIn : LegType → List ℕ → Leg
-legIn c x = record {
+unfoldable pub rowLeg : LegType → List ℕ → Leg
+rowLeg c x = record {
   from = getD x 1 0;
   to = getD x 2 0;
   departure = record { 0 = getD x 4 0 };
@@ -48,8 +48,8 @@ legIn c x = record {
 -- a row of no kind is an absent parent
 unfoldable pub decoded : List ℕ → Option Leg
 decoded x =
-    cond (eqb (getD x 0 0) 1) (some (legIn (Transit (getD x 3 0)) x))
-    (cond (eqb (getD x 0 0) 2) (some (legIn Transfer x)) (cond (eqb (getD x 0 0) 3) (some (legIn Walk x)) none))
+    cond (eqb (getD x 0 0) 1) (some (rowLeg (Transit (getD x 3 0)) x))
+    (cond (eqb (getD x 0 0) 2) (some (rowLeg Transfer x)) (cond (eqb (getD x 0 0) 3) (some (rowLeg Walk x)) none))
 
 -- row i of a list of rows
 unfoldable pub rowOf : List ℕ → ℕ → List ℕ

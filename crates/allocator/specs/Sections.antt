@@ -8,5 +8,5 @@ unfoldable pub sect : ℕ → ℕ → List ℕ → List ℕ
 sect o n w = take n (drop o w)
 
 -- w with xs written over it from o on
-unfoldable pub put : ℕ → List ℕ → List ℕ → List ℕ
-put o xs w = take o w ++ (xs ++ drop (o + length xs) w)
+unfoldable pub overlaid : ℕ → List ℕ → List ℕ → List ℕ
+overlaid o xs w = take o w ++ (xs ++ drop (o + length xs) w)

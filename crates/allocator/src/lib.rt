@@ -13,11 +13,11 @@ ghost use Rattle.model.specs.Choosing.{sooner};
 ghost use Rattle.model.specs.Lists.{anyOf};
 ghost use Rattle.model.specs.Legs.{legOf};
 ghost use Rattle.model.specs.Moments.{better, ahead};
-ghost use Rattle.allocator.specs.Sections.{sect, put};
-ghost use Rattle.allocator.specs.Rows.{kindWord, tripWord, legRow, legIn, decoded, parentOf};
+ghost use Rattle.allocator.specs.Sections.{sect, overlaid};
+ghost use Rattle.allocator.specs.Rows.{rowKind, rowTrip, legRow, rowLeg, decoded, parentOf};
 ghost use Rattle.allocator.specs.Layout.{pages, wordsRoom, marksRoom, Words, Marks, Sized, prevOf, currOf, bestOf, heldOf, activeOf, parentsOf, markOf, heldMarkOf, maskOf};
 ghost use Rattle.allocator.specs.Does.{Usable, Does};
-ghost use Rattle.allocator.specs.Operations.{blank, cleared, started, swapped, unmasked, refilled, activated, unmarked, holding, stored, applied};
+ghost use Rattle.allocator.specs.Operations.{blank, cleared, started, swapped, unmasked, refreshed, activated, unmarked, holding, stored, applied};
 ghost use Rattle.allocator.specs.Marked.{after};
 use marks::Next;
 use model::Direction;
@@ -41,7 +41,7 @@ pub enum Parent {
 fn fill(words: &mut [u32], a: usize, e: usize, v: u32)
     requires { ⌜ a ≤ e ⌝ }
     requires { ⌜ e ≤ length (now words) ⌝ }
-    ensures { λ _. ⌜ now (words .exit) ≡ put a (replicate (e - a) v) (now (words .entry)) ⌝ }
+    ensures { λ _. ⌜ now (words .exit) ≡ overlaid a (replicate (e - a) v) (now (words .entry)) ⌝ }
 {
     let mut i = a;
     while i < e {
@@ -55,7 +55,7 @@ fn copy(words: &mut [u32], a: usize, b: usize, n: usize)
     requires { ⌜ a + n ≤ length (now words) ⌝ }
     requires { ⌜ b + n ≤ length (now words) ⌝ }
     requires { ⌜ n ≤ (a - b) + (b - a) ⌝ }
-    ensures { λ _. ⌜ now (words .exit) ≡ put b (sect a n (now (words .entry))) (now (words .entry)) ⌝ }
+    ensures { λ _. ⌜ now (words .exit) ≡ overlaid b (sect a n (now (words .entry))) (now (words .entry)) ⌝ }
 {
     let mut i = 0;
     while i < n {
@@ -69,7 +69,7 @@ fn copy_marks(marks: &mut [u64], a: usize, b: usize, n: usize)
     requires { ⌜ a + n ≤ length (now marks) ⌝ }
     requires { ⌜ b + n ≤ length (now marks) ⌝ }
     requires { ⌜ n ≤ (a - b) + (b - a) ⌝ }
-    ensures { λ _. ⌜ now (marks .exit) ≡ put b (sect a n (now (marks .entry))) (now (marks .entry)) ⌝ }
+    ensures { λ _. ⌜ now (marks .exit) ≡ overlaid b (sect a n (now (marks .entry))) (now (marks .entry)) ⌝ }
 {
     let mut i = 0;
     while i < n {
@@ -82,7 +82,7 @@ fn copy_marks(marks: &mut [u64], a: usize, b: usize, n: usize)
 fn clear_part(marks: &mut [u64], a: usize, e: usize)
     requires { ⌜ a ≤ e ⌝ }
     requires { ⌜ e ≤ length (now marks) ⌝ }
-    ensures { λ _. ⌜ now (marks .exit) ≡ put a (replicate (e - a) 0) (now (marks .entry)) ⌝ }
+    ensures { λ _. ⌜ now (marks .exit) ≡ overlaid a (replicate (e - a) 0) (now (marks .entry)) ⌝ }
 {
     marks::clear_all(&mut marks[a..e]);
 }
@@ -246,7 +246,7 @@ fn row_at(n: u32, m: u32, k: u32, s: u32) -> usize
 // The leg in the row that begins at word i.
 fn leg_at(words: &[u32], i: usize, kind: LegType) -> Leg
     requires { ⌜ i + 6 ≤ length (now words) ⌝ }
-    ensures { λ g. ⌜ g ≡ legIn kind (sect i 6 (now (words .entry))) ⌝ }
+    ensures { λ g. ⌜ g ≡ rowLeg kind (sect i 6 (now (words .entry))) ⌝ }
 {
     Leg {
         from: words[i + 1],
@@ -375,7 +375,7 @@ pub fn swap_labels(words: &mut [u32], marks: &mut [u64], n: u32, m: u32)
 // Fills the routes' marks again, where the mode asks for it before every round.
 pub fn refill(words: &mut [u32], marks: &mut [u64], n: u32, m: u32, mode: Mode, d: Direction)
     requires { ⌜ Usable n m (now words) (now marks) ⌝ }
-    ensures { λ _. ⌜ Does n m (refilled mode m d)
+    ensures { λ _. ⌜ Does n m (refreshed mode m d)
         (now (words .entry)) (now (marks .entry)) (now (words .exit)) (now (marks .exit)) ⌝ }
 {
     let a = 4 * (n as usize);
@@ -407,7 +407,7 @@ pub fn begin_choosing(
     d: Direction,
 )
     requires { ⌜ Usable n m (now words) (now marks) ⌝ }
-    ensures { λ _. ⌜ Does n m (λ v. unmasked m (refilled mode m d v))
+    ensures { λ _. ⌜ Does n m (λ v. unmasked m (refreshed mode m d v))
         (now (words .entry)) (now (marks .entry)) (now (words .exit)) (now (marks .exit)) ⌝ }
 {
     refill(words, marks, n, m, mode, d);
@@ -458,7 +458,7 @@ pub fn hold(words: &mut [u32], marks: &mut [u64], n: u32, m: u32)
 
 // The first word of a row.
 fn kind_word(kind: LegType) -> u32
-    ensures { λ v. ⌜ v ≡ kindWord kind ⌝ }
+    ensures { λ v. ⌜ v ≡ rowKind kind ⌝ }
 {
     match kind {
         LegType::Transit(_) => 1,
@@ -469,7 +469,7 @@ fn kind_word(kind: LegType) -> u32
 
 // A footpath has no trip.
 fn trip_word(kind: LegType) -> u32
-    ensures { λ v. ⌜ v ≡ tripWord kind ⌝ }
+    ensures { λ v. ⌜ v ≡ rowTrip kind ⌝ }
 {
     match kind {
         LegType::Transit(trip) => trip,
@@ -481,7 +481,7 @@ fn trip_word(kind: LegType) -> u32
 // Writes the row of a leg from word i on.
 fn put_leg(words: &mut [u32], i: usize, g: Leg)
     requires { ⌜ i + 6 ≤ length (now words) ⌝ }
-    ensures { λ _. ⌜ now (words .exit) ≡ put i (legRow g) (now (words .entry)) ⌝ }
+    ensures { λ _. ⌜ now (words .exit) ≡ overlaid i (legRow g) (now (words .entry)) ⌝ }
 {
     let kind = g.kind;
     words[i] = kind_word(kind);

@@ -24,7 +24,7 @@ use Rattle.allocator.specs.Parts.{withActive, withMask}
 use Rattle.allocator.specs.Operations.{chosenOf, withChosen, activated}
 use Rattle.explorer.specs.Turns.{inTurn, Turn}
 use Rattle.explorer.proofs.Turns.{row-next, mark-start, mark-next}
-use Rattle.explorer_choosing.specs.Chosen.{chosenBy, chosenAt, chosen}
+use Rattle.explorer_choosing.specs.Chosen.{chosenBy, chosenAt, chosenAll}
 
 -- ---- what is chosen of a list is chosen entry by entry
 module _ (d : Direction) (n : Net) where
@@ -68,8 +68,8 @@ module _ {w : List ℕ} {n s j b : ℕ} (h : Accepted w) (en : n ≡ netOf w .st
 
 -- ---- the marked stops; choosing does not change which these are
 module _ (d : Direction) (t : Net) (n m : ℕ) where
-  pub stop-start : (w q : List ℕ) → Turn (chosenAt d t) (chosen d t (view n m w q)) (after 0 (markOf n m q)) (view n m w q)
-  unfolding chosen view
+  pub stop-start : (w q : List ℕ) → Turn (chosenAt d t) (chosenAll d t (view n m w q)) (after 0 (markOf n m q)) (view n m w q)
+  unfolding chosenAll view
   stop-start w q = record {
     rest =
         (mark-start (chosenAt d t) (markOf n m q) (view n m w q)) .rest

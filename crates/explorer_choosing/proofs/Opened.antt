@@ -8,13 +8,13 @@ use Rattle.model.specs.declared.Mode.{Mode}
 use Rattle.model.specs.declared.Mode.the-variants.{Source, Rescan}
 use Rattle.model.specs.State.{Task}
 use Rattle.model.specs.Tables.{Net}
-use Rattle.model.specs.Choosing.{fresh, refilled as refilledMarks}
+use Rattle.model.specs.Choosing.{fresh, refilled}
 use Rattle.model.specs.Round.{picks, opened}
 use Rattle.model.specs.Work.{Work}
-use Rattle.allocator.specs.Parts.{withPrev, withCurr, withMark, withActive, withMask}
-use Rattle.allocator.specs.Operations.{blank, swapped, unmasked, refilled, chosenOf, withChosen, unmarked}
+use Rattle.allocator.specs.Parts.{withPrev, withCurr, withMarks, withActive, withMask}
+use Rattle.allocator.specs.Operations.{blank, swapped, unmasked, refreshed, chosenOf, withChosen, unmarked}
 use Rattle.explorer.specs.Applied.{openedWork}
-use Rattle.explorer_choosing.specs.Chosen.{chosen, openedBy}
+use Rattle.explorer_choosing.specs.Chosen.{chosenAll, openedBy}
 
 -- of the task only the mode and the direction are read
 pub opened-by : (n : Net) (q : Task) (w : Work) → openedWork n q w ≡ openedBy (q .mode) (q .direction) n w
@@ -23,18 +23,18 @@ opened-by n q w = refl
 
 module _ (t : Net) where
   steps : (mode : Mode) (d : Direction) (w : Work)
-      → unmarked (t .stops) (chosen d t (unmasked (t .routes) (refilled mode (t .routes) d (swapped (t .stops) w))))
+      → unmarked (t .stops) (chosenAll d t (unmasked (t .routes) (refreshed mode (t .routes) d (swapped (t .stops) w))))
       ≡ openedBy mode d t w
-  unfolding unmarked chosen unmasked refilled swapped openedBy openedWork opened picks refilledMarks fresh blank withPrev withCurr withMark withActive withMask withChosen chosenOf
+  unfolding unmarked chosenAll unmasked refreshed swapped openedBy openedWork opened picks refilled fresh blank withPrev withCurr withMarks withActive withMask withChosen chosenOf
   steps Source d w = refl
   steps Rescan Departure w = refl
   steps Rescan Arrival w = refl
 
 pub opened-steps : (t : Net) (mode : Mode) (d : Direction) (w : Work) {n m : ℕ} {x y z : Work} → n ≡ t .stops → m ≡ t .routes
     → x ≡ swapped n w
-    → y ≡ chosen d t (unmasked m (refilled mode m d x)) → z ≡ unmarked n y → z ≡ openedBy mode d t w
+    → y ≡ chosenAll d t (unmasked m (refreshed mode m d x)) → z ≡ unmarked n y → z ≡ openedBy mode d t w
 opened-steps t mode d w en em ex ey ez = ez ∙ rw (ey, ex, en, em) (steps t mode d w)
 
 -- routes chosen after another operation
-pub chosen-after : (d : Direction) (t : Net) {v x y : Work} → v ≡ chosen d t x → x ≡ y → v ≡ chosen d t y
-chosen-after d t e f = e ∙ ap (chosen d t) f
+pub chosen-after : (d : Direction) (t : Net) {v x y : Work} → v ≡ chosenAll d t x → x ≡ y → v ≡ chosenAll d t y
+chosen-after d t e f = e ∙ ap (chosenAll d t) f

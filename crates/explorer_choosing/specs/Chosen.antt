@@ -21,8 +21,8 @@ unfoldable pub chosenAt : Direction → Net → ℕ → Work → Work
 chosenAt d n s w = withChosen (chooseAt d n s (n .routesOf s) (chosenOf w)) w
 
 -- the routes of all marked stops, ascending
-unfoldable pub chosen : Direction → Net → Work → Work
-chosen d n w = withChosen (choose d n (setIn 0 (w .labels .mark)) (chosenOf w)) w
+unfoldable pub chosenAll : Direction → Net → Work → Work
+chosenAll d n w = withChosen (choose d n (setIn 0 (w .labels .mark)) (chosenOf w)) w
 
 -- "swap labels and clear the current ones; .. choose routes; clear marks". Of the task only the mode and the direction
 -- are read: `opened-by` of proofs/Opened.antt

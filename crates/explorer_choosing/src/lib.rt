@@ -2,9 +2,9 @@
 ghost use Prim.Native.Nat.{_<_};
 ghost use Rattle.repository.specs.NetOf.{netOf};
 ghost use Rattle.allocator.specs.Does.{Usable, Does};
-ghost use Rattle.allocator.specs.Operations.{unmasked, refilled};
+ghost use Rattle.allocator.specs.Operations.{unmasked, refreshed};
 ghost use Rattle.explorer.specs.Fixed.{Fixed};
-ghost use Rattle.explorer_choosing.specs.Chosen.{chosenAt, chosen, openedBy};
+ghost use Rattle.explorer_choosing.specs.Chosen.{chosenAt, chosenAll, openedBy};
 use marks::Next;
 use model::Direction;
 use model::Mode;
@@ -46,7 +46,7 @@ pub fn choose_routes(
 )
     requires { ⌜ Fixed (now tables) n m ⌝ }
     requires { ⌜ Usable n m (now words) (now marks) ⌝ }
-    ensures { λ _. ⌜ Does n m (chosen d (netOf (now (tables .entry))))
+    ensures { λ _. ⌜ Does n m (chosenAll d (netOf (now (tables .entry))))
         (now (words .entry)) (now (marks .entry)) (now (words .exit)) (now (marks .exit)) ⌝ }
 {
     let mut at: usize = 0;
@@ -73,7 +73,7 @@ fn choose_anew(
 )
     requires { ⌜ Fixed (now tables) n m ⌝ }
     requires { ⌜ Usable n m (now words) (now marks) ⌝ }
-    ensures { λ _. ⌜ Does n m (λ v. chosen d (netOf (now (tables .entry))) (unmasked m (refilled mode m d v)))
+    ensures { λ _. ⌜ Does n m (λ v. chosenAll d (netOf (now (tables .entry))) (unmasked m (refreshed mode m d v)))
         (now (words .entry)) (now (marks .entry)) (now (words .exit)) (now (marks .exit)) ⌝ }
 {
     allocator::begin_choosing(words, marks, n, m, mode, d);

@@ -1,7 +1,7 @@
 -- `allocator::kind_word` meets its contract: by the kind.
 -- Assumes nothing.
 use borrow.Author.Needs.{needs}
-use Rattle.allocator.specs.Rows.{kindWord}
+use Rattle.allocator.specs.Rows.{rowKind}
 use Rattle.allocator.proofs.kind_word.Statement.{statement}
 use Rattle.allocator.proofs.kind_word.Tie as tie
 
@@ -15,15 +15,15 @@ enum-told-3 : tie.Need-enum-told-3
 enum-told-3 c = search needs
 
 returns : tie.Need-returns
-unfolding kindWord
+unfolding rowKind
 returns c = search needs
 
 returns-2 : tie.Need-returns-2
-unfolding kindWord
+unfolding rowKind
 returns-2 c = search needs
 
 returns-3 : tie.Need-returns-3
-unfolding kindWord
+unfolding rowKind
 returns-3 c = search needs
 
 pub kind-word-spec : {M : Type 1} → statement M

@@ -1,7 +1,7 @@
 -- `allocator::refill` meets its contract: by the mode: a section filled, or nothing done.
 -- Assumes nothing.
 use borrow.Author.Needs.{needs}
-use Rattle.allocator.specs.Operations.{refilled}
+use Rattle.allocator.specs.Operations.{refreshed}
 use Rattle.allocator.proofs.Operated.{does, does-refill, does-refill-not}
 use Rattle.allocator.proofs.refill.Statement.{statement}
 use Rattle.allocator.proofs.refill.Tie as tie
@@ -25,13 +25,13 @@ fill-requires : tie.Need-fill-requires
 fill-requires c κs = search needs
 
 returns : tie.Need-returns
-returns c = does (refilled _ _ _) (search (needs, does-refill-not)) (search needs)
+returns c = does (refreshed _ _ _) (search (needs, does-refill-not)) (search needs)
 
 same-length : tie.Need-same-length
 same-length c = search needs
 
 returns-2 : tie.Need-returns-2
-returns-2 c = does (refilled _ _ _) (search (needs, does-refill)) (search needs)
+returns-2 c = does (refreshed _ _ _) (search (needs, does-refill)) (search needs)
 
 pub refill-spec : {M : Type 1} → statement M
 refill-spec =

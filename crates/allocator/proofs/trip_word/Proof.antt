@@ -1,7 +1,7 @@
 -- `allocator::trip_word` meets its contract: by the kind.
 -- Assumes nothing.
 use borrow.Author.Needs.{needs}
-use Rattle.allocator.specs.Rows.{tripWord}
+use Rattle.allocator.specs.Rows.{rowTrip}
 use Rattle.allocator.proofs.trip_word.Statement.{statement}
 use Rattle.allocator.proofs.trip_word.Tie as tie
 
@@ -15,15 +15,15 @@ enum-told-2 : tie.Need-enum-told-2
 enum-told-2 c = search needs
 
 returns : tie.Need-returns
-unfolding tripWord
+unfolding rowTrip
 returns c = search needs
 
 returns-2 : tie.Need-returns-2
-unfolding tripWord
+unfolding rowTrip
 returns-2 c = search needs
 
 returns-3 : tie.Need-returns-3
-unfolding tripWord
+unfolding rowTrip
 returns-3 c = search needs
 
 pub trip-word-spec : {M : Type 1} → statement M

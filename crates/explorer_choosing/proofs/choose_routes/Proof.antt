@@ -10,14 +10,14 @@ use Rattle.allocator.specs.Does.{Usable}
 use Rattle.explorer.specs.Turns.{Turn}
 use Rattle.explorer.proofs.Turns.{mark-end}
 use Rattle.explorer.proofs.Marked.{mark-long, visit-below, visit-less, visit-fits, visit-past}
-use Rattle.explorer_choosing.specs.Chosen.{chosenAt, chosen}
+use Rattle.explorer_choosing.specs.Chosen.{chosenAt, chosenAll}
 use Rattle.explorer_choosing.proofs.Choosing.{stop-start, stop-next}
 use Rattle.explorer_choosing.proofs.choose_routes.Statement.{statement}
 use Rattle.explorer_choosing.proofs.choose_routes.Tie as tie
 
 abbrev Inv-loop : tie.InvT-loop
 Inv-loop tables words₀ marks₀ n m d at₀ words marks at =
-    Turn (chosenAt d (netOf tables)) (chosen d (netOf tables) (view n m words₀ marks₀))
+    Turn (chosenAt d (netOf tables)) (chosenAll d (netOf tables) (view n m words₀ marks₀))
     (after at (markOf n m marks)) (view n m words marks)
     × Usable n m words marks × (length words ≡ length words₀) × (length marks ≡ length marks₀)
 
