@@ -17,9 +17,9 @@ use Rattle.allocator.specs.Layout.{bestOf, view}
 use Rattle.allocator.specs.Operations.{applied}
 use Rattle.explorer.specs.Fused.{offered, alightWork}
 use Rattle.explorer_rides.specs.declared.Ride.{Ride}
-use Rattle.explorer_rides.specs.Riding.{aboard, Seated, rideLeg}
+use Rattle.explorer_rides.specs.Riding.{aboard, Seated, rideLeg, reachIn}
 use Rattle.explorer_rides.proofs.Seats.{seat-on, aboard-on, aboard-off}
-use Rattle.explorer_rides.proofs.Times.{reachIn, reach-is}
+use Rattle.explorer_rides.proofs.Times.{reach-is}
 
 -- ---- the tests: an arrival search has none against the target
 module _ {d : Direction} (t target : ℕ) where

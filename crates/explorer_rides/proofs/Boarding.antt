@@ -16,20 +16,21 @@ use Rattle.model.specs.Rides.{leave, catch, allows, boarded, board}
 use Rattle.repository.specs.NetOf.{netOf}
 use Rattle.allocator.specs.Layout.{prevOf, view}
 use Rattle.explorer_rides.specs.declared.Ride.{Ride}
-use Rattle.explorer_rides.specs.Riding.{aboard, Seated, boardAt}
+use Rattle.explorer_rides.specs.Riding.{aboard, Seated, boardAt, leaveIn, meets}
 use Rattle.explorer_rides.proofs.Seats.{seat-on, aboard-on, aboard-off}
-use Rattle.explorer_rides.proofs.Times.{leaveIn, leave-is}
+use Rattle.explorer_rides.proofs.Times.{leave-is}
 
 -- ---- whether the label allows another trip
--- the label x and the moment t at which the trip aboard leaves
-abbrev pub meets : Direction → ℕ → ℕ → Bool
-meets Departure t x = leb x t
-meets Arrival t x = leb t x
+pub meets-departure : {d : Direction} (t x : ℕ) → d ≡ Departure → leb x t ≡ meets d t x
+meets-departure t x e = rw e
+
+pub meets-arrival : {d : Direction} (t x : ℕ) → d ≡ Arrival → leb t x ≡ meets d t x
+meets-arrival t x e = rw e
 
 module _ (d : Direction) (w : List ℕ) (x p : ℕ) (a : Ride) where
-  pub allows-on : {r t : ℕ} → Seated w r a → (a .trip ≡ MAX → ⊥) → t ≡ leaveIn d w (a .row) p
-      → meets d t x ≡ allows d (netOf w) x p (aboard a)
-  allows-on z e et = rw (aboard-on a e) (go d (leave-is w (a .trip) p ((seat-on z e) .times) d et))
+  pub allows-on : {r t : ℕ} {c : Bool} → Seated w r a → (a .trip ≡ MAX → ⊥) → t ≡ leaveIn d w (a .row) p → c ≡ meets d t x
+      → c ≡ allows d (netOf w) x p (aboard a)
+  allows-on z e et ec = ec ∙ rw (aboard-on a e) (go d (leave-is w (a .trip) p ((seat-on z e) .times) d et))
     where
       go : (d : Direction) {t : ℕ} → t ≡ leave d (netOf w) (a .trip) p
           → meets d t x ≡ allows d (netOf w) x p (On (a .trip) (a .since))

@@ -16,17 +16,22 @@ use Rattle.repository.specs.Rows.{timeRow}
 use Rattle.repository.proofs.Trips.{arrival-is, departure-is}
 use Rattle.allocator.specs.Operations.{applied}
 use Rattle.explorer_rides.specs.declared.Ride.{Ride}
-use Rattle.explorer_rides.specs.Riding.{Seat, rideLeg, Riding}
+use Rattle.explorer_rides.specs.Riding.{Seat, rideLeg, Riding, reachIn, leaveIn}
 use Rattle.explorer_rides.proofs.Seats.{stop-read}
 
 -- ---- a trip's moments, as the code reads them
-abbrev pub reachIn : Direction → List ℕ → ℕ → ℕ → ℕ
-reachIn Departure w row p = arrivalIn w row p
-reachIn Arrival w row p = departureIn w row p
+module _ {d : Direction} (w : List ℕ) (row p : ℕ) {t : ℕ} where
+  pub reach-departure : d ≡ Departure → t ≡ arrivalIn w row p → t ≡ reachIn d w row p
+  reach-departure e f = rw e f
 
-abbrev pub leaveIn : Direction → List ℕ → ℕ → ℕ → ℕ
-leaveIn Departure w row p = departureIn w row p
-leaveIn Arrival w row p = arrivalIn w row p
+  pub reach-arrival : d ≡ Arrival → t ≡ departureIn w row p → t ≡ reachIn d w row p
+  reach-arrival e f = rw e f
+
+  pub leave-departure : d ≡ Departure → t ≡ departureIn w row p → t ≡ leaveIn d w row p
+  leave-departure e f = rw e f
+
+  pub leave-arrival : d ≡ Arrival → t ≡ arrivalIn w row p → t ≡ leaveIn d w row p
+  leave-arrival e f = rw e f
 
 module _ (w : List ℕ) (v p : ℕ) {row t : ℕ} (e : row ≡ timeRow w v) where
   pub reach-is : (d : Direction) → t ≡ reachIn d w row p → t ≡ reach d (netOf w) v p
@@ -40,21 +45,12 @@ module _ (w : List ℕ) (v p : ℕ) {row t : ℕ} (e : row ≡ timeRow w v) wher
   leave-is Arrival f = arrival-is w v p e f
 
 -- ---- the leg that the code makes
-module _ {d : Direction} (w : List ℕ) (a : Ride) {r t : ℕ} (z : Seat w r a) where
-  pub leaves-departure : d ≡ Departure → t ≡ departureIn w (a .row) (a .since)
-      → t ≡ leave d (netOf w) (a .trip) (a .since)
-  leaves-departure e f = rw e (leave-is w (a .trip) (a .since) (z .times) Departure f)
-
-  pub leaves-arrival : d ≡ Arrival → t ≡ arrivalIn w (a .row) (a .since)
-      → t ≡ leave d (netOf w) (a .trip) (a .since)
-  leaves-arrival e f = rw e (leave-is w (a .trip) (a .since) (z .times) Arrival f)
-
 pub leg-is : (d : Direction) {w stops : List ℕ} {n k r : ℕ} (a : Ride) (s t : ℕ) {x : ℕ} {g : Leg}
     → Riding w n k r stops → Seat w r a
-    → x ≡ leave d (netOf w) (a .trip) (a .since) → g ≡ legOf d (Transit (a .trip)) (getD stops (a .since) 0) x s t
+    → x ≡ leaveIn d w (a .row) (a .since) → g ≡ legOf d (Transit (a .trip)) (getD stops (a .since) 0) x s t
     → g ≡ rideLeg d (netOf w) r a s t
 unfolding rideLeg
-leg-is d a s t h z ex eg = eg ∙ rw (stop-read h (z .since), ex)
+leg-is d {w} a s t h z ex eg = eg ∙ rw (stop-read h (z .since), leave-is w (a .trip) (a .since) (z .times) d ex)
 
 pub proposed : (d : Direction) {w stops : List ℕ} {n k r : ℕ} (s t : ℕ) (y : Work) {g h : Leg} {u : Work}
     → Riding w n k r stops → g ≡ h → u ≡ applied d (k * n) s t g y → u ≡ applied d (k * netOf w .stops) s t h y

@@ -2,13 +2,14 @@
 use Prim.Native.Nat.{ℕ, _<_}
 use mathlib.Core.Path.{_≡_}
 use mathlib.Core.Logic.{_≢_}
-use mathlib.Core.Bool.{cond}
+use mathlib.Core.Bool.{Bool, cond}
 use mathlib.Core.List.{List}
-use lib.Dec.{eqb}
+use lib.Dec.{leb, eqb}
 use Rattle.base.specs.Tab.{tab}
 use Rattle.model.specs.declared.Aboard.{Aboard}
 use Rattle.model.specs.declared.Aboard.the-variants.{On, Off}
 use Rattle.model.specs.declared.Direction.{Direction}
+use Rattle.model.specs.declared.Direction.the-variants.{Departure, Arrival}
 use Rattle.model.specs.declared.Leg.{Leg}
 use Rattle.model.specs.declared.LegType.the-variants.{Transit}
 use Rattle.model.specs.Tables.{Net}
@@ -17,7 +18,7 @@ use Rattle.model.specs.Moments.{MAX, reading}
 use Rattle.model.specs.Rides.{leave, catch, allows, boarded}
 use Rattle.repository.specs.Accepted.{Accepted}
 use Rattle.repository.specs.NetOf.{netOf}
-use Rattle.repository.specs.Rows.{TripOf, timeRow}
+use Rattle.repository.specs.Rows.{TripOf, timeRow, arrivalIn, departureIn}
 use Rattle.discovery.specs.declared.Trip.{Trip}
 use Rattle.discovery.specs.declared.Trip.the-variants.{At, Nothing}
 use Rattle.explorer_rides.specs.declared.Ride.{Ride}
@@ -69,3 +70,17 @@ pub record OnRoute (w : List ℕ) (r p : ℕ) : Type 0 where
 -- the model's `board` where the label of the round before is x
 unfoldable pub boardAt : Direction → Net → ℕ → ℕ → ℕ → Aboard → Aboard
 boardAt d n r p x a = cond (allows d n (reading d x) p a) (boarded p a (catch d n r p (reading d x))) a
+
+-- when the trip whose times begin at the row comes to position p, and when it goes on from there, as the search goes
+abbrev pub reachIn : Direction → List ℕ → ℕ → ℕ → ℕ
+reachIn Departure w row p = arrivalIn w row p
+reachIn Arrival w row p = departureIn w row p
+
+abbrev pub leaveIn : Direction → List ℕ → ℕ → ℕ → ℕ
+leaveIn Departure w row p = departureIn w row p
+leaveIn Arrival w row p = arrivalIn w row p
+
+-- who is there at the label x can take what goes on at t
+abbrev pub meets : Direction → ℕ → ℕ → Bool
+meets Departure t x = leb x t
+meets Arrival t x = leb t x

@@ -1,6 +1,7 @@
 // The rides of a round (explorer.rs): every route that the round chose is scanned along its positions.
 // A proposal is applied as it is made.
 pub mod seat; // seat.rt: a trip is caught, and what it proposes
+pub mod position; // position.rt: what happens at one position, in both directions
 pub mod departure; // departure.rt: the scan of a route with time, from its mark to its end
 pub mod arrival; // arrival.rt: the scan against time, from its mark down to its first position
 

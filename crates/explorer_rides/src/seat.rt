@@ -1,18 +1,19 @@
 // What the two scans share: a trip is caught at a position, and proposes the stops that it comes to.
 ghost use mathlib.Core.Bool.{_&&_};
 ghost use mathlib.Core.Path.{_≡_};
-ghost use Prim.Native.Nat.{_*_, _<_};
+ghost use Prim.Native.Nat.{_+_, _*_, _<_};
 ghost use lib.ListN.{getD};
 ghost use Rattle.model.specs.declared.LegType.the-variants.{Transit};
 ghost use Rattle.model.specs.Legs.{legOf};
 ghost use Rattle.model.specs.Moments.{better, ahead};
-ghost use Rattle.model.specs.Rides.{leave};
+ghost use Rattle.repository.specs.Laid.{Laid};
 ghost use Rattle.repository.specs.NetOf.{netOf};
+ghost use Rattle.repository.specs.Rows.{timeCount};
 ghost use Rattle.discovery.specs.Trips.{placeOf};
 ghost use Rattle.allocator.specs.Layout.{Words, Sized, bestOf, view};
 ghost use Rattle.allocator.specs.Operations.{applied};
 ghost use Rattle.allocator.specs.Tidy.{Tidy};
-ghost use Rattle.explorer_rides.specs.Riding.{Seat, caught, rideLeg, OnRoute, Riding};
+ghost use Rattle.explorer_rides.specs.Riding.{Seat, caught, rideLeg, OnRoute, Riding, reachIn, leaveIn};
 use super::Ride;
 use discovery::Trip;
 use model::Direction;
@@ -54,15 +55,27 @@ pub fn catch_trip(tables: &[u32], d: Direction, r: u32, p: u32, label: Time, rid
     }
 }
 
-// When the trip left the position where it was boarded; in an arrival search when it came there.
-fn leaves_at(tables: &[u32], d: Direction, r: u32, ride: Ride) -> Time
-    requires { ⌜ OnRoute (now tables) r (ride .since) ⌝ }
-    requires { ⌜ Seat (now tables) r ride ⌝ }
-    ensures { λ t. ⌜ t .0 ≡ leave d (netOf (now (tables .entry))) (ride .trip) (ride .since) ⌝ }
+// When a trip comes to position p, as the search goes: its times begin at the row.
+pub fn reaches_at(tables: &[u32], d: Direction, row: u32, p: u32) -> Time
+    requires { ⌜ Laid (now tables) ⌝ }
+    requires { ⌜ row + p < timeCount (now tables) ⌝ }
+    ensures { λ t. ⌜ t .0 ≡ reachIn d (now (tables .entry)) row p ⌝ }
 {
     match d {
-        Direction::Departure => repository::times::departure_in(tables, ride.row, ride.since),
-        Direction::Arrival => repository::times::arrival_in(tables, ride.row, ride.since),
+        Direction::Departure => repository::times::arrival_in(tables, row, p),
+        Direction::Arrival => repository::times::departure_in(tables, row, p),
+    }
+}
+
+// When it goes on from there, as the search goes.
+pub fn leaves_at(tables: &[u32], d: Direction, row: u32, p: u32) -> Time
+    requires { ⌜ Laid (now tables) ⌝ }
+    requires { ⌜ row + p < timeCount (now tables) ⌝ }
+    ensures { λ t. ⌜ t .0 ≡ leaveIn d (now (tables .entry)) row p ⌝ }
+{
+    match d {
+        Direction::Departure => repository::times::departure_in(tables, row, p),
+        Direction::Arrival => repository::times::arrival_in(tables, row, p),
     }
 }
 
@@ -129,7 +142,7 @@ fn leg_from(
 {
     let b = ride.since as usize;
     let near = stops[b];
-    let x = leaves_at(tables, d, r, ride);
+    let x = leaves_at(tables, d, ride.row, ride.since);
     ride_leg(d, ride.trip, near, x, s, t)
 }
 

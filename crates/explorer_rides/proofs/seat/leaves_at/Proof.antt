@@ -1,7 +1,6 @@
--- `leaves_at`: the moment where the trip was boarded.
+-- `leaves_at`: by the direction.
 use borrow.Author.Needs.{needs}
-use Rattle.explorer_rides.proofs.Seats.{seat-times}
-use Rattle.explorer_rides.proofs.Times.{leaves-departure, leaves-arrival}
+use Rattle.explorer_rides.proofs.Times.{leave-departure, leave-arrival}
 use Rattle.explorer_rides.proofs.seat.leaves_at.Statement.{statement}
 use Rattle.explorer_rides.proofs.seat.leaves_at.Tie as tie
 
@@ -9,21 +8,19 @@ enum-told : tie.Need-enum-told
 enum-told c = search needs
 
 departure-in-requires : tie.Need-departure-in-requires
-departure-in-requires c κs = search (needs, seat-times)
+departure-in-requires c κs = search needs
 
 enum-told-2 : tie.Need-enum-told-2
 enum-told-2 c = search needs
 
 arrival-in-requires : tie.Need-arrival-in-requires
-arrival-in-requires c κs = search (needs, seat-times)
+arrival-in-requires c κs = search needs
 
 returns : tie.Need-returns
-returns c = search (needs, leaves-departure)
+returns c = search (needs, leave-departure)
 
 returns-2 : tie.Need-returns-2
-returns-2 c = search (needs, leaves-arrival)
+returns-2 c = search (needs, leave-arrival)
 
 pub leaves-at-spec : {M : Type 1} → statement M
-leaves-at-spec =
-    tie.close
-    (tie.spec enum-told departure-in-requires enum-told-2 arrival-in-requires returns returns-2)
+leaves-at-spec = tie.close (tie.spec enum-told departure-in-requires enum-told-2 arrival-in-requires returns returns-2)

@@ -1,6 +1,6 @@
 -- `leg_from`: the leg from where the trip was boarded.
 use borrow.Author.Needs.{needs}
-use Rattle.explorer_rides.proofs.Seats.{seat-room}
+use Rattle.explorer_rides.proofs.Seats.{seat-room, seat-times}
 use Rattle.explorer_rides.proofs.Times.{leg-is}
 use Rattle.explorer_rides.proofs.seat.leg_from.Statement.{statement}
 use Rattle.explorer_rides.proofs.seat.leg_from.Tie as tie
@@ -15,7 +15,7 @@ shared-slice-read-near : tie.Need-shared-slice-read-near
 shared-slice-read-near c = search (needs, seat-room)
 
 leaves-at-requires : tie.Need-leaves-at-requires
-leaves-at-requires c κs = search needs
+leaves-at-requires c κs = (search needs, search (needs, seat-times))
 
 ride-leg-requires : tie.Need-ride-leg-requires
 ride-leg-requires c κs = search needs

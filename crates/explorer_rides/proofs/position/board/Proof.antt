@@ -1,9 +1,9 @@
--- `board`: the ride that goes on, arrival.
+-- `board`: the ride that goes on.
 use borrow.Author.Needs.{needs}
 use Rattle.explorer_rides.proofs.Catching.{caught-aboard, caught-seated, board-absent}
 use Rattle.explorer_rides.proofs.Boarding.{board-stay, board-on}
-use Rattle.explorer_rides.proofs.arrival.board.Statement.{statement}
-use Rattle.explorer_rides.proofs.arrival.board.Tie as tie
+use Rattle.explorer_rides.proofs.position.board.Statement.{statement}
+use Rattle.explorer_rides.proofs.position.board.Tie as tie
 
 returns : tie.Need-returns
 returns c = (search (needs, board-absent), search needs)

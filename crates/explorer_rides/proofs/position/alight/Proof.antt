@@ -1,15 +1,15 @@
--- `alight`: who is aboard proposes, arrival.
+-- `alight`: who is aboard proposes.
 use borrow.Author.Needs.{needs}
 use Rattle.explorer_rides.proofs.Seats.{stop-in, seat-on, times-known}
 use Rattle.explorer_rides.proofs.Alighting.{alight-off, alight-not, alight-take}
-use Rattle.explorer_rides.proofs.arrival.alight.Statement.{statement}
-use Rattle.explorer_rides.proofs.arrival.alight.Tie as tie
+use Rattle.explorer_rides.proofs.position.alight.Statement.{statement}
+use Rattle.explorer_rides.proofs.position.alight.Tie as tie
 
 returns : tie.Need-returns
 returns c = (search (needs, alight-off), search needs)
 
-departure-in-requires : tie.Need-departure-in-requires
-departure-in-requires c κs = search (needs, times-known)
+reaches-at-requires : tie.Need-reaches-at-requires
+reaches-at-requires c κs = (search needs, search (needs, times-known))
 
 passes-requires : tie.Need-passes-requires
 passes-requires c κs = (search needs, search (needs, stop-in))
@@ -37,7 +37,7 @@ alight-spec =
     tie.close
     (tie.spec
     returns
-    departure-in-requires
+    reaches-at-requires
     passes-requires
     propose-requires
     same-length

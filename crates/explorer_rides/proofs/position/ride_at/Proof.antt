@@ -1,9 +1,9 @@
--- `ride_at`: alight, then board, arrival.
+-- `ride_at`: alight, then board.
 use borrow.Author.Needs.{needs}
 use Rattle.explorer_rides.proofs.Seats.{stop-room, stop-read, stop-here}
 use Rattle.explorer_rides.proofs.Boarding.{board-is}
-use Rattle.explorer_rides.proofs.arrival.ride_at.Statement.{statement}
-use Rattle.explorer_rides.proofs.arrival.ride_at.Tie as tie
+use Rattle.explorer_rides.proofs.position.ride_at.Statement.{statement}
+use Rattle.explorer_rides.proofs.position.ride_at.Tie as tie
 
 mul-s : tie.Need-mul-s
 mul-s c = search needs
