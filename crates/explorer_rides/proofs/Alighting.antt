@@ -1,12 +1,11 @@
 -- Alighting as the code does it, in both directions: what it read and tested, turned into a case of `alightWork`.
-use Prim.Native.Nat.{ℕ, _-_, _*_}
+use Prim.Native.Nat.{ℕ, _*_}
 use mathlib.Core.Path.{_≡_, refl, sym, _∙_}
 use mathlib.Core.Bool.{Bool, true, false, cond, _&&_}
 use mathlib.Core.List.{List}
 use lib.ListN.{getD}
 use Rattle.base.specs.Choice.{and-left}
 use Rattle.model.specs.declared.Direction.{Direction}
-use Rattle.model.specs.declared.Direction.the-variants.{Departure, Arrival}
 use Rattle.model.specs.declared.Leg.{Leg}
 use Rattle.model.specs.Moments.{MAX, better, ahead}
 use Rattle.model.specs.Applying.{wins}
@@ -14,30 +13,23 @@ use Rattle.model.specs.Work.{Work}
 use Rattle.model.proofs.Applied.{apply1-off}
 use Rattle.repository.specs.NetOf.{netOf}
 use Rattle.allocator.specs.Layout.{bestOf, view}
+use Rattle.allocator.specs.Does.{Usable, Does}
 use Rattle.allocator.specs.Operations.{applied}
+use Rattle.explorer.specs.declared.Round.{Round}
 use Rattle.explorer.specs.Fused.{offered, alightWork}
+use Rattle.explorer_rides.specs.declared.Call.{Call}
 use Rattle.explorer_rides.specs.declared.Ride.{Ride}
-use Rattle.explorer_rides.specs.Riding.{aboard, Seated, rideLeg, reachIn}
+use Rattle.explorer_rides.specs.Riding.{aboard, Seated, rideLeg, OnRoute, Riding, reachIn}
 use Rattle.explorer_rides.proofs.Seats.{seat-on, aboard-on, aboard-off}
 use Rattle.explorer_rides.proofs.Times.{reach-is}
 
--- ---- the tests: an arrival search has none against the target
-module _ {d : Direction} (t target : ℕ) where
-  pub ahead-departure : {c : Bool} → d ≡ Departure → c ≡ better Departure t target → c ≡ ahead d t target
-  unfolding ahead
-  ahead-departure e f = f ∙ rw e
+-- ---- the tests
+module _ (d : Direction) (target b : ℕ) {t u : ℕ} (g : t ≡ u) {c : Bool} (e : c ≡ ahead d t target) where
+  pub both-tested : {best : ℕ} {o : Bool} → c ≡ true → best ≡ b → o ≡ better d t best → o ≡ ahead d u target && better d u b
+  both-tested f i h = h ∙ rw (← g, sym e ∙ f, i)
 
-  pub ahead-arrival : d ≡ Arrival → true ≡ ahead d t target
-  unfolding ahead
-  ahead-arrival e = rw e
-
-module _ (d : Direction) (t target b : ℕ) {c : Bool} (e : c ≡ ahead d t target) where
-  pub both-tested : {best : ℕ} {o : Bool} → c ≡ true → best ≡ b → o ≡ better d t best
-      → o ≡ ahead d t target && better d t b
-  both-tested f g h = h ∙ rw (sym e ∙ f, g)
-
-  pub one-failed : c ≡ false → false ≡ ahead d t target && better d t b
-  one-failed f = rw (sym e ∙ f)
+  pub one-failed : c ≡ false → false ≡ ahead d u target && better d u b
+  one-failed f = rw (← g, sym e ∙ f)
 
 -- ---- a proposal
 -- one that does not win changes nothing
@@ -59,30 +51,62 @@ module _ (d : Direction) (row target s m : ℕ) (g : Leg) (x : Work) where
       go false f = refl
 
 -- ---- nobody is aboard
-pub alight-off : (d : Direction) (w : List ℕ) (k target r p : ℕ) (x : Work) (a : Ride) → a .trip ≡ MAX
-    → x ≡ alightWork d (netOf w) k target r p (aboard a) x
+pub alight-off : (w : List ℕ) (o : Round) (here : Call) {ws ms : List ℕ} (a : Ride) → a .trip ≡ MAX
+    → Usable (o .stops) (o .routes) ws ms
+    → Does (o .stops) (o .routes) (alightWork (o .direction) (netOf w) (o .number) (o .target .0) (here .route) (here .position) (aboard a)) ws ms ws ms
 unfolding alightWork
-alight-off d w k target r p x a e = rw (aboard-off a e)
+alight-off w o here a e u = record { holds = rw (aboard-off a e); usable = u }
 
--- ---- a trip is aboard, and comes at t to the stop s
-module _ (d : Direction) (w : List ℕ) (k target r p : ℕ) {a : Ride} {s t : ℕ} (z : Seated w r a) (e : a .trip ≡ MAX → ⊥)
-    (es : s ≡ netOf w .stopAt r p) (et : t ≡ reachIn d w (a .row) p) where
-  alight-on : (x : Work) → alightWork d (netOf w) k target r p (aboard a) x
-      ≡ offered d (k * netOf w .stops) target s t (rideLeg d (netOf w) r a s t) x
+-- ---- the leg that the code makes is the one proposed
+pub proposed : (w : List ℕ) (o : Round) (here : Call) (a : Ride) {t : ℕ} {g : Leg} {ws ms ws′ ms′ : List ℕ}
+    → t ≡ reachIn (o .direction) w (a .row) (here .position)
+    → g ≡ rideLeg (o .direction) (netOf w) (here .route) a (here .stop) t
+    → Does (o .stops) (o .routes) (applied (o .direction) (o .number * o .stops) (here .stop) t g) ws ms ws′ ms′
+    → Does (o .stops) (o .routes)
+    (applied (o .direction) (o .number * o .stops) (here .stop) (reachIn (o .direction) w (a .row) (here .position))
+    (rideLeg (o .direction) (netOf w) (here .route) a (here .stop) (reachIn (o .direction) w (a .row) (here .position))))
+    ws ms ws′ ms′
+proposed w o here a e f k = rw (f, e) at k
+
+-- ---- a trip is aboard, and comes to the stop of this position
+module _ {w stops : List ℕ} {o : Round} {here : Call} {a : Ride} (h : Riding w o (here .route) stops) (q : OnRoute w here)
+    (z : Seated w (here .route) a) (e : a .trip ≡ MAX → ⊥) where
+  alight-on : (x : Work) → alightWork (o .direction) (netOf w) (o .number) (o .target .0) (here .route) (here .position) (aboard a) x
+      ≡ offered (o .direction) (o .number * o .stops) (o .target .0) (here .stop) (reachIn (o .direction) w (a .row) (here .position))
+      (rideLeg (o .direction) (netOf w) (here .route) a (here .stop) (reachIn (o .direction) w (a .row) (here .position))) x
   unfolding alightWork rideLeg
-  alight-on x = let there = reach-is w (a .trip) p ((seat-on z e) .times) d et in rw (aboard-on a e, es, there)
+  alight-on x =
+      let is = reach-is w (a .trip) (here .position) ((seat-on z e) .times) (o .direction) refl in
+      rw (aboard-on a e, q .stop, h .round .fixed .stops, is)
 
   -- the target or the stop has seen as good
-  pub alight-not : (n m : ℕ) (ws ms : List ℕ) {c : Bool} → c ≡ ahead d t target && better d t (getD (bestOf n m ws) s 0)
-      → c ≡ false → view n m ws ms ≡ alightWork d (netOf w) k target r p (aboard a) (view n m ws ms)
+  pub alight-not : {ws ms : List ℕ} {c : Bool}
+      → c ≡ ahead (o .direction) (reachIn (o .direction) w (a .row) (here .position)) (o .target .0)
+      && better (o .direction) (reachIn (o .direction) w (a .row) (here .position)) (getD (bestOf (o .stops) (o .routes) ws) (here .stop) 0)
+      → c ≡ false → Usable (o .stops) (o .routes) ws ms
+      → Does (o .stops) (o .routes)
+      (alightWork (o .direction) (netOf w) (o .number) (o .target .0) (here .route) (here .position) (aboard a)) ws ms ws ms
   unfolding wins view
-  alight-not n m ws ms f g =
-      let x = view n m ws ms in
-      sym (alight-on x ∙ offer-not d (k * netOf w .stops) target s t (rideLeg d (netOf w) r a s t) x (sym f ∙ g))
+  alight-not {ws} {ms} f g u =
+      let x = view (o .stops) (o .routes) ws ms in
+      let t = reachIn (o .direction) w (a .row) (here .position) in
+      let leg = rideLeg (o .direction) (netOf w) (here .route) a (here .stop) t in
+      record {
+        holds = sym (alight-on x ∙ offer-not (o .direction) (o .number * o .stops) (o .target .0) (here .stop) t leg x (sym f ∙ g));
+        usable = u;
+      }
 
-  pub alight-take : (y : Work) (other : Bool) {c : Bool} {u : Work} → c ≡ ahead d t target && other → c ≡ true
-      → u ≡ applied d (k * netOf w .stops) s t (rideLeg d (netOf w) r a s t) y
-      → u ≡ alightWork d (netOf w) k target r p (aboard a) y
-  alight-take y other f g e =
-      let l = rideLeg d (netOf w) r a s t in
-      e ∙ sym (alight-on y ∙ offer-ahead d (k * netOf w .stops) target s t l y (and-left _ other (sym f ∙ g)))
+  pub alight-take : (other : Bool) {c : Bool} {ws ms ws′ ms′ : List ℕ}
+      → c ≡ ahead (o .direction) (reachIn (o .direction) w (a .row) (here .position)) (o .target .0) && other → c ≡ true
+      → Does (o .stops) (o .routes)
+      (applied (o .direction) (o .number * o .stops) (here .stop) (reachIn (o .direction) w (a .row) (here .position))
+      (rideLeg (o .direction) (netOf w) (here .route) a (here .stop) (reachIn (o .direction) w (a .row) (here .position))))
+      ws ms ws′ ms′
+      → Does (o .stops) (o .routes)
+      (alightWork (o .direction) (netOf w) (o .number) (o .target .0) (here .route) (here .position) (aboard a)) ws ms ws′ ms′
+  alight-take other {ws = ws} {ms} f i k =
+      let x = view (o .stops) (o .routes) ws ms in
+      let t = reachIn (o .direction) w (a .row) (here .position) in
+      let leg = rideLeg (o .direction) (netOf w) (here .route) a (here .stop) t in
+      let taken = offer-ahead (o .direction) (o .number * o .stops) (o .target .0) (here .stop) t leg x (and-left _ other (sym f ∙ i)) in
+      record { holds = k .holds ∙ sym (alight-on x ∙ taken); usable = k .usable }

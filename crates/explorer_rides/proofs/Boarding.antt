@@ -15,8 +15,10 @@ use Rattle.model.specs.Moments.{MAX, orMax, reading}
 use Rattle.model.specs.Rides.{leave, catch, allows, boarded, board}
 use Rattle.repository.specs.NetOf.{netOf}
 use Rattle.allocator.specs.Layout.{prevOf, view}
+use Rattle.explorer.specs.declared.Round.{Round}
+use Rattle.explorer_rides.specs.declared.Call.{Call}
 use Rattle.explorer_rides.specs.declared.Ride.{Ride}
-use Rattle.explorer_rides.specs.Riding.{aboard, Seated, boardAt, leaveIn, meets}
+use Rattle.explorer_rides.specs.Riding.{aboard, Seated, OnRoute, boardAt, leaveIn, meets}
 use Rattle.explorer_rides.proofs.Seats.{seat-on, aboard-on, aboard-off}
 use Rattle.explorer_rides.proofs.Times.{leave-is}
 
@@ -63,8 +65,9 @@ module _ (d : Direction) (w : List ℕ) (r p x : ℕ) (a : Aboard) {c : Bool} (r
   board-on f g = g ∙ rw (reading-is d x real, ← e, f)
 
 -- ---- the label that was read
-pub board-is : (d : Direction) (w : List ℕ) (n m r p : ℕ) (ws ms : List ℕ) (a : Aboard) {e : Aboard} {s x : ℕ}
-    → s ≡ netOf w .stopAt r p → x ≡ getD (prevOf n m ws) s 0 → e ≡ boardAt d (netOf w) r p x a
-    → e ≡ board d (netOf w) ((view n m ws ms) .prev) r p a
+pub board-is : (w : List ℕ) (o : Round) (here : Call) (ws ms : List ℕ) (a : Aboard) {e : Aboard} {x : ℕ} → OnRoute w here
+    → x ≡ getD (prevOf (o .stops) (o .routes) ws) (here .stop) 0
+    → e ≡ boardAt (o .direction) (netOf w) (here .route) (here .position) x a
+    → e ≡ board (o .direction) (netOf w) ((view (o .stops) (o .routes) ws ms) .prev) (here .route) (here .position) a
 unfolding board boardAt view
-board-is d w n m r p ws ms a es ex f = f ∙ rw (ex, es)
+board-is w o here ws ms a q ex f = f ∙ rw (ex, q .stop)

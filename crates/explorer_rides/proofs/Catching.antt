@@ -14,7 +14,7 @@ use Rattle.model.specs.Lists.{upto}
 use Rattle.model.specs.Tables.{Net}
 use Rattle.model.specs.Moments.{MAX, orMax, reading}
 use Rattle.model.specs.Rides.{firstTrip, lastTrip, catch, allows, boarded}
-use Rattle.repository.specs.Accepted.{Timed}
+use Rattle.repository.specs.Accepted.{Accepted, Timed}
 use Rattle.repository.specs.NetOf.{netOf}
 use Rattle.repository.specs.Rows.{TripOf, timeRow, tripCount}
 use Rattle.repository.proofs.Trips.{trip-known}
@@ -23,6 +23,7 @@ use Rattle.discovery.specs.declared.Trip.the-variants.{At, Nothing}
 use Rattle.discovery.specs.Trips.{placeOf}
 use Rattle.discovery.proofs.Within.{tripIn, InRoute}
 use Rattle.discovery.proofs.Caught.{place-trip, place-in}
+use Rattle.explorer_rides.specs.declared.Call.{Call}
 use Rattle.explorer_rides.specs.declared.Ride.{Ride}
 use Rattle.explorer_rides.specs.Riding.{aboard, Seated, caught, OnRoute, boardAt}
 use Rattle.explorer_rides.proofs.Seats.{aboard-on}
@@ -40,36 +41,45 @@ module _ (w : List ℕ) (r : ℕ) {i v : ℕ} (l : i < netOf w .trips r) (g : v 
   listed : TripOf (netOf w) r v
   listed = record { place = i; within = l; trip = g }
 
-  listed-known : {p : ℕ} → OnRoute w r p → v < tripCount w
-  listed-known h = trip-known (h .accepted) (h .route) listed
+  listed-known : Accepted w → r < netOf w .routes → v < tripCount w
+  listed-known h l = trip-known h l listed
 
 -- ---- the ride that the code makes of what was found
-module _ (d : Direction) (w : List ℕ) (r p x : ℕ) {t : Trip} (e : t ≡ placeOf d (netOf w) r p x) where
+module _ (d : Direction) (w : List ℕ) (here : Call) (x : ℕ) {t : Trip}
+    (e : t ≡ placeOf d (netOf w) (here .route) (here .position) x) where
   module _ {i : ℕ} (f : t ≡ At i) where
-    pub caught-in : i < netOf w .trips r
-    caught-in = (place-in w r p x d) .within i (sym e ∙ f)
+    pub caught-in : i < netOf w .trips (here .route)
+    caught-in = (place-in w (here .route) (here .position) x d) .within i (sym e ∙ f)
 
-    module _ {v : ℕ} (g : v ≡ netOf w .tripAt r i) where
-      pub caught-known : OnRoute w r p → v < tripCount w
-      caught-known = listed-known w r caught-in g
+    module _ {v : ℕ} (g : v ≡ netOf w .tripAt (here .route) i) where
+      pub caught-known : OnRoute w here → v < tripCount w
+      caught-known h = listed-known w (here .route) caught-in g (h .accepted) (h .route)
 
       pub caught-is : (a : Ride) {row : ℕ} → row ≡ timeRow w v
-          → record { trip = v; since = p; row = row; place = i } ≡ caught w r p a (placeOf d (netOf w) r p x)
+          → record { trip = v; since = here .position; row = row; place = i }
+          ≡ caught w (here .route) (here .position) a (placeOf d (netOf w) (here .route) (here .position) x)
       unfolding caught
       caught-is a k = rw (← e, f, ← g, ← k)
 
-  pub caught-not : (a : Ride) → t ≡ Nothing → a ≡ caught w r p a (placeOf d (netOf w) r p x)
+  pub caught-not : (a : Ride) → t ≡ Nothing
+      → a ≡ caught w (here .route) (here .position) a (placeOf d (netOf w) (here .route) (here .position) x)
   unfolding caught
   caught-not a f = rw (← e, f)
 
 -- ---- that ride is the model's, and the route has it
-module _ (w : List ℕ) (r p : ℕ) (a : Ride) (h : OnRoute w r p) where
+module _ (w : List ℕ) (here : Call) (a : Ride) (h : OnRoute w here) where
+  abbrev r : ℕ
+  r = here .route
+
+  abbrev p : ℕ
+  p = here .position
+
   trip-aboard : (o : Option ℕ) (t : Trip) → InRoute (netOf w) r t → tripIn (netOf w) r t ≡ o
       → aboard (caught w r p a t) ≡ boarded p (aboard a) o
   unfolding caught tripCount tripIn boarded
   trip-aboard o (At i) z e =
       let v = netOf w .tripAt r i in
-      let real : v ≡ MAX → ⊥ = λ m. omega (arith, listed-known w r (z .within i refl) refl h, h .accepted .laid .trips-limit) in
+      let real : v ≡ MAX → ⊥ = λ m. omega (arith, listed-known w r (z .within i refl) refl (h .accepted) (h .route), h .accepted .laid .trips-limit) in
       aboard-on (record { trip = v; since = p; row = timeRow w v; place = i }) real ∙ rw (← e)
   trip-aboard o Nothing z e = rw (← e)
 
@@ -121,9 +131,9 @@ unfolding boarded
 stay-none true p a = refl
 stay-none false p a = refl
 
-pub board-absent : (d : Direction) (w : List ℕ) (r p : ℕ) (a : Aboard) {x : ℕ} → OnRoute w r p → x ≡ 0
-    → a ≡ boardAt d (netOf w) r p x a
+pub board-absent : (d : Direction) (w : List ℕ) (here : Call) (a : Aboard) {x : ℕ} → OnRoute w here → x ≡ 0
+    → a ≡ boardAt d (netOf w) (here .route) (here .position) x a
 unfolding boardAt
-board-absent d w r p a h e =
-    rw (e, catch-absent (h .accepted .timed) r p (h .route) (h .position) d)
-    (stay-none (allows d (netOf w) (reading d 0) p a) p a)
+board-absent d w here a h e =
+    rw (e, catch-absent (h .accepted .timed) (here .route) (here .position) (h .route) (h .position) d)
+    (stay-none (allows d (netOf w) (reading d 0) (here .position) a) (here .position) a)

@@ -1,5 +1,5 @@
 -- The moments of the trip aboard as the code reads them, by the row of its times; and the leg of its ride.
-use Prim.Native.Nat.{ℕ, _*_}
+use Prim.Native.Nat.{ℕ}
 use mathlib.Core.Path.{_≡_, _∙_}
 use mathlib.Core.List.{List}
 use lib.ListN.{getD}
@@ -9,12 +9,11 @@ use Rattle.model.specs.declared.Leg.{Leg}
 use Rattle.model.specs.declared.LegType.the-variants.{Transit}
 use Rattle.model.specs.Legs.{legOf}
 use Rattle.model.specs.Rides.{reach, leave}
-use Rattle.model.specs.Work.{Work}
 use Rattle.repository.specs.Sections.{arrivalIn, departureIn}
 use Rattle.repository.specs.NetOf.{netOf}
 use Rattle.repository.specs.Rows.{timeRow}
 use Rattle.repository.proofs.Trips.{arrival-is, departure-is}
-use Rattle.allocator.specs.Operations.{applied}
+use Rattle.explorer.specs.declared.Round.{Round}
 use Rattle.explorer_rides.specs.declared.Ride.{Ride}
 use Rattle.explorer_rides.specs.Riding.{Seat, rideLeg, Riding, reachIn, leaveIn}
 use Rattle.explorer_rides.proofs.Seats.{stop-read}
@@ -45,13 +44,10 @@ module _ (w : List ℕ) (v p : ℕ) {row t : ℕ} (e : row ≡ timeRow w v) wher
   leave-is Arrival f = arrival-is w v p e f
 
 -- ---- the leg that the code makes
-pub leg-is : (d : Direction) {w stops : List ℕ} {n k r : ℕ} (a : Ride) (s t : ℕ) {x : ℕ} {g : Leg}
-    → Riding w n k r stops → Seat w r a
-    → x ≡ leaveIn d w (a .row) (a .since) → g ≡ legOf d (Transit (a .trip)) (getD stops (a .since) 0) x s t
-    → g ≡ rideLeg d (netOf w) r a s t
+pub leg-is : {w stops : List ℕ} {o : Round} {r : ℕ} (a : Ride) (s t : ℕ) {x : ℕ} {g : Leg} → Riding w o r stops → Seat w r a
+    → x ≡ leaveIn (o .direction) w (a .row) (a .since)
+    → g ≡ legOf (o .direction) (Transit (a .trip)) (getD stops (a .since) 0) x s t
+    → g ≡ rideLeg (o .direction) (netOf w) r a s t
 unfolding rideLeg
-leg-is d {w} a s t h z ex eg = eg ∙ rw (stop-read h (z .since), leave-is w (a .trip) (a .since) (z .times) d ex)
-
-pub proposed : (d : Direction) {w stops : List ℕ} {n k r : ℕ} (s t : ℕ) (y : Work) {g h : Leg} {u : Work}
-    → Riding w n k r stops → g ≡ h → u ≡ applied d (k * n) s t g y → u ≡ applied d (k * netOf w .stops) s t h y
-proposed d s t y z e f = f ∙ rw (z .stops-are, e)
+leg-is {w} {o = o} a s t h z ex eg =
+    eg ∙ rw (stop-read h (z .since), leave-is w (a .trip) (a .since) (z .times) (o .direction) ex)

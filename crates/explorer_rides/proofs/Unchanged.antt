@@ -1,6 +1,6 @@
 -- What a ride leaves as it was: the choice of routes.
 use Prim.Native.Nat.{ℕ, _-_}
-use mathlib.Core.Path.{_≡_, refl, ap, _∙_}
+use mathlib.Core.Path.{_≡_, refl, _∙_}
 use mathlib.Core.Bool.{Bool, true, false, cond}
 use mathlib.Core.List.{List, [], _∷_}
 use lib.ListN.{getD}
@@ -14,7 +14,9 @@ use Rattle.model.specs.Rides.{course}
 use Rattle.model.specs.Work.{Work}
 use Rattle.repository.specs.NetOf.{netOf}
 use Rattle.allocator.specs.Layout.{activeOf, maskOf, view}
+use Rattle.allocator.specs.Does.{Does}
 use Rattle.allocator.specs.Operations.{applied}
+use Rattle.explorer.specs.declared.Round.{Round}
 use Rattle.explorer.specs.Fused.{offered, alightWork, scanWork, routeWork}
 
 record Same (x y : Work) : Type 0 where
@@ -47,12 +49,15 @@ module _ (d : Direction) (n : Net) (k target r : ℕ) where
   unfolding routeWork
   route-same x = scan-same (course d n r (getD (x .active) r 0)) Off x
 
-module _ (d : Direction) (w : List ℕ) (n m k target r : ℕ) (ws ms ws′ ms′ : List ℕ)
-    (e : view n m ws′ ms′ ≡ routeWork d (netOf w) k target r (view n m ws ms)) where
-  pub route-mask : maskOf n m ms′ ≡ maskOf n m ms
-  unfolding view
-  route-mask = ap (λ (u : Work). u .mask) e ∙ (route-same d (netOf w) k target r (view n m ws ms)) .mask
+module _ (w : List ℕ) (o : Round) (r : ℕ) (ws ms ws′ ms′ : List ℕ)
+    (f : Does (o .stops) (o .routes) (routeWork (o .direction) (netOf w) (o .number) (o .target .0) r) ws ms ws′ ms′) where
+  same : Same (view (o .stops) (o .routes) ws ms) (view (o .stops) (o .routes) ws′ ms′)
+  same = rw (f .holds) (route-same (o .direction) (netOf w) (o .number) (o .target .0) r (view (o .stops) (o .routes) ws ms))
 
-  pub route-active : activeOf n m ws′ ≡ activeOf n m ws
+  pub route-mask : maskOf (o .stops) (o .routes) ms′ ≡ maskOf (o .stops) (o .routes) ms
   unfolding view
-  route-active = ap (λ (u : Work). u .active) e ∙ (route-same d (netOf w) k target r (view n m ws ms)) .active
+  route-mask = same .mask
+
+  pub route-active : activeOf (o .stops) (o .routes) ws′ ≡ activeOf (o .stops) (o .routes) ws
+  unfolding view
+  route-active = same .active

@@ -1,4 +1,4 @@
--- A ride as the scan carries it, and what stands fixed along a route and in a round.
+-- A ride as the scan carries it, and what stands fixed along a route.
 use Prim.Native.Nat.{ℕ, _<_}
 use mathlib.Core.Path.{_≡_}
 use mathlib.Core.Logic.{_≢_}
@@ -21,7 +21,10 @@ use Rattle.repository.specs.NetOf.{netOf}
 use Rattle.repository.specs.Rows.{TripOf, timeRow, arrivalIn, departureIn}
 use Rattle.discovery.specs.declared.Trip.{Trip}
 use Rattle.discovery.specs.declared.Trip.the-variants.{At, Nothing}
+use Rattle.explorer.specs.declared.Round.{Round}
+use Rattle.explorer.specs.Fixed.{InRound}
 use Rattle.explorer_rides.specs.declared.Ride.{Ride}
+use Rattle.explorer_rides.specs.declared.Call.{Call}
 
 -- the model's word for it
 unfoldable pub aboard : Ride → Aboard
@@ -46,26 +49,18 @@ caught w r p a Nothing = a
 unfoldable pub rideLeg : Direction → Net → ℕ → Ride → ℕ → ℕ → Leg
 rideLeg d n r a s t = legOf d (Transit (a .trip)) (n .stopAt r (a .since)) (leave d n (a .trip) (a .since)) s t
 
--- in a round
-pub record Fixed (w : List ℕ) (n m k : ℕ) : Type 0 where
-  pub accepted : Accepted w
-  pub stops : n ≡ netOf w .stops
-  pub routes : m ≡ netOf w .routes
-  pub round : k < 15
-
--- along the route r, whose stops are lent
-pub record Riding (w : List ℕ) (n k r : ℕ) (stops : List ℕ) : Type 0 where
-  pub accepted : Accepted w
-  pub stops-are : n ≡ netOf w .stops
-  pub round : k < 15
+-- in the round o, along the route r, whose stops are lent
+pub record Riding (w : List ℕ) (o : Round) (r : ℕ) (stops : List ℕ) : Type 0 where
+  pub round : InRound w o
   pub route : r < netOf w .routes
   pub along : stops ≡ tab (netOf w .stopAt r) (netOf w .positions r) 0
 
 -- at a position of it
-pub record OnRoute (w : List ℕ) (r p : ℕ) : Type 0 where
+pub record OnRoute (w : List ℕ) (p : Call) : Type 0 where
   pub accepted : Accepted w
-  pub route : r < netOf w .routes
-  pub position : p < netOf w .positions r
+  pub route : p .route < netOf w .routes
+  pub position : p .position < netOf w .positions (p .route)
+  pub stop : p .stop ≡ netOf w .stopAt (p .route) (p .position)
 
 -- the model's `board` where the label of the round before is x
 unfoldable pub boardAt : Direction → Net → ℕ → ℕ → ℕ → Aboard → Aboard

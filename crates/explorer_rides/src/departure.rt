@@ -5,13 +5,13 @@ ghost use Rattle.model.specs.declared.Aboard.the-variants.{Off};
 ghost use Rattle.model.specs.declared.Direction.the-variants.{Departure};
 ghost use Rattle.model.specs.Rides.{course};
 ghost use Rattle.repository.specs.NetOf.{netOf};
-ghost use Rattle.allocator.specs.Layout.{Sized, view};
-ghost use Rattle.allocator.specs.Tidy.{Tidy};
+ghost use Rattle.allocator.specs.Does.{Usable, Does};
+ghost use Rattle.explorer.specs.Fixed.{InRound};
 ghost use Rattle.explorer.specs.Fused.{scanWork, routeWork};
-ghost use Rattle.explorer_rides.specs.Riding.{Fixed, Riding};
+ghost use Rattle.explorer_rides.specs.Riding.{Riding};
+use super::Call;
 use super::Ride;
-use model::Direction;
-use shared::Time;
+use explorer::Round;
 
 // From position `from` to the end of the route.
 fn scan(
@@ -19,21 +19,17 @@ fn scan(
     words: &mut [u32],
     marks: &mut [u64],
     stops: &[u32],
-    n: u32,
-    m: u32,
-    k: u32,
-    target: Time,
+    round: Round,
     r: u32,
     from: u32,
 )
-    requires { ⌜ Riding (now tables) n k r (now stops) ⌝ }
-    requires { ⌜ Sized n m (now words) (now marks) ⌝ }
-    requires { ⌜ Tidy n m (now words) (now marks) ⌝ }
-    ensures { λ _. ⌜ view n m (now (words .exit)) (now (marks .exit))
-        ≡ scanWork Departure (netOf (now (tables .entry))) k (target .0) r
-        (course Departure (netOf (now (tables .entry))) r from) Off
-        (view n m (now (words .entry)) (now (marks .entry))) ⌝ }
-    ensures { λ _. ⌜ Tidy n m (now (words .exit)) (now (marks .exit)) ⌝ }
+    requires { ⌜ Riding (now tables) round r (now stops) ⌝ }
+    requires { ⌜ round .direction ≡ Departure ⌝ }
+    requires { ⌜ Usable (round .stops) (round .routes) (now words) (now marks) ⌝ }
+    ensures { λ _. ⌜ Does (round .stops) (round .routes)
+        (scanWork (round .direction) (netOf (now (tables .entry))) (round .number) (round .target .0) r
+        (course (round .direction) (netOf (now (tables .entry))) r from) Off)
+        (now (words .entry)) (now (marks .entry)) (now (words .exit)) (now (marks .exit)) ⌝ }
 {
     let end = repository::routes::route_len(tables, r);
     let mut ride = Ride {
@@ -44,45 +40,28 @@ fn scan(
     };
     let mut p = from;
     while p < end {
-        ride = super::position::ride_at(
-            tables,
-            words,
-            marks,
-            stops,
-            n,
-            m,
-            Direction::Departure,
-            k,
-            target,
-            r,
-            p,
-            ride,
-        );
+        let s = stops[p as usize];
+        let here = Call {
+            route: r,
+            position: p,
+            stop: s,
+        };
+        ride = super::position::ride_at(tables, words, marks, stops, round, here, ride);
         p += 1;
     }
 }
 
 // The route r, from its mark.
-pub fn explore_route(
-    tables: &[u32],
-    words: &mut [u32],
-    marks: &mut [u64],
-    n: u32,
-    m: u32,
-    k: u32,
-    target: Time,
-    r: u32,
-)
-    requires { ⌜ Fixed (now tables) n m k ⌝ }
-    requires { ⌜ Sized n m (now words) (now marks) ⌝ }
-    requires { ⌜ Tidy n m (now words) (now marks) ⌝ }
-    requires { ⌜ r < m ⌝ }
-    ensures { λ _. ⌜ view n m (now (words .exit)) (now (marks .exit))
-        ≡ routeWork Departure (netOf (now (tables .entry))) k (target .0) r
-        (view n m (now (words .entry)) (now (marks .entry))) ⌝ }
-    ensures { λ _. ⌜ Tidy n m (now (words .exit)) (now (marks .exit)) ⌝ }
+pub fn explore_route(tables: &[u32], words: &mut [u32], marks: &mut [u64], round: Round, r: u32)
+    requires { ⌜ InRound (now tables) round ⌝ }
+    requires { ⌜ round .direction ≡ Departure ⌝ }
+    requires { ⌜ Usable (round .stops) (round .routes) (now words) (now marks) ⌝ }
+    requires { ⌜ r < round .routes ⌝ }
+    ensures { λ _. ⌜ Does (round .stops) (round .routes)
+        (routeWork (round .direction) (netOf (now (tables .entry))) (round .number) (round .target .0) r)
+        (now (words .entry)) (now (marks .entry)) (now (words .exit)) (now (marks .exit)) ⌝ }
 {
-    let from = allocator::active_at(words, n, m, r);
+    let from = allocator::active_at(words, round.stops, round.routes, r);
     let stops = repository::routes::route_stops(tables, r);
-    scan(tables, words, marks, stops, n, m, k, target, r, from);
+    scan(tables, words, marks, stops, round, r, from);
 }

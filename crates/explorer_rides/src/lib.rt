@@ -6,16 +6,15 @@ pub mod departure; // departure.rt: the scan of a route with time, from its mark
 pub mod arrival; // arrival.rt: the scan against time, from its mark down to its first position
 
 ghost use mathlib.Core.Path.{_≡_};
-ghost use Prim.Native.Nat.{_<_};
 ghost use Rattle.model.specs.declared.Direction.the-variants.{Departure, Arrival};
-ghost use Rattle.repository.specs.Accepted.{Accepted};
 ghost use Rattle.repository.specs.NetOf.{netOf};
-ghost use Rattle.allocator.specs.Layout.{Sized, view};
-ghost use Rattle.allocator.specs.Tidy.{Tidy};
+ghost use Rattle.allocator.specs.Layout.{view};
+ghost use Rattle.allocator.specs.Does.{Usable, Does};
+ghost use Rattle.explorer.specs.Fixed.{InRound};
 ghost use Rattle.explorer.specs.Fused.{ridesWork};
 ghost use Rattle.model.proofs.Choosing.{Placed};
+use explorer::Round;
 use marks::Next;
-use shared::Time;
 
 // Who is aboard: a trip since a position of the route, with the first row of the trip's times. The trip
 // MAX is none. (An enum would carry bytes that hold nothing from position to position.) The trip's place
@@ -27,32 +26,27 @@ pub struct Ride {
     pub place: u32,
 }
 
-pub fn explore_routes(
-    tables: &[u32],
-    words: &mut [u32],
-    marks: &mut [u64],
-    n: u32,
-    m: u32,
-    k: u32,
-    target: Time,
-)
-    requires { ⌜ Accepted (now tables) ⌝ }
-    requires { ⌜ n ≡ netOf (now tables) .stops ⌝ }
-    requires { ⌜ m ≡ netOf (now tables) .routes ⌝ }
-    requires { ⌜ k < 15 ⌝ }
-    requires { ⌜ Sized n m (now words) (now marks) ⌝ }
-    requires { ⌜ Tidy n m (now words) (now marks) ⌝ }
-    ensures { λ _. ⌜ view n m (now (words .exit)) (now (marks .exit))
-        ≡ ridesWork Departure (netOf (now (tables .entry))) k (target .0)
-        (view n m (now (words .entry)) (now (marks .entry))) ⌝ }
-    ensures { λ _. ⌜ Tidy n m (now (words .exit)) (now (marks .exit)) ⌝ }
+// A call: a position of a route, and the stop there.
+pub struct Call {
+    pub route: u32,
+    pub position: u32,
+    pub stop: u32,
+}
+
+pub fn explore_routes(tables: &[u32], words: &mut [u32], marks: &mut [u64], round: Round)
+    requires { ⌜ InRound (now tables) round ⌝ }
+    requires { ⌜ round .direction ≡ Departure ⌝ }
+    requires { ⌜ Usable (round .stops) (round .routes) (now words) (now marks) ⌝ }
+    ensures { λ _. ⌜ Does (round .stops) (round .routes)
+        (ridesWork (round .direction) (netOf (now (tables .entry))) (round .number) (round .target .0))
+        (now (words .entry)) (now (marks .entry)) (now (words .exit)) (now (marks .exit)) ⌝ }
 {
     let mut from: usize = 0;
     loop {
-        let next = allocator::next_route(marks, n, m, from);
+        let next = allocator::next_route(marks, round.stops, round.routes, from);
         match next {
             Next::At(r) => {
-                departure::explore_route(tables, words, marks, n, m, k, target, r as u32);
+                departure::explore_route(tables, words, marks, round, r as u32);
                 from = r + 1;
             }
             Next::Nothing => return,
@@ -60,34 +54,22 @@ pub fn explore_routes(
     }
 }
 
-// There is no target test; the target is named for the statement's sake.
-pub fn explore_routes_reverse(
-    tables: &[u32],
-    words: &mut [u32],
-    marks: &mut [u64],
-    n: u32,
-    m: u32,
-    k: u32,
-    target: Time,
-)
-    requires { ⌜ Accepted (now tables) ⌝ }
-    requires { ⌜ n ≡ netOf (now tables) .stops ⌝ }
-    requires { ⌜ m ≡ netOf (now tables) .routes ⌝ }
-    requires { ⌜ k < 15 ⌝ }
-    requires { ⌜ Sized n m (now words) (now marks) ⌝ }
-    requires { ⌜ Tidy n m (now words) (now marks) ⌝ }
-    requires { ⌜ Placed Arrival (netOf (now tables)) ((view n m (now words) (now marks)) .active) ⌝ }
-    ensures { λ _. ⌜ view n m (now (words .exit)) (now (marks .exit))
-        ≡ ridesWork Arrival (netOf (now (tables .entry))) k (target .0)
-        (view n m (now (words .entry)) (now (marks .entry))) ⌝ }
-    ensures { λ _. ⌜ Tidy n m (now (words .exit)) (now (marks .exit)) ⌝ }
+// There is no target test; the round's target is named for the statement's sake.
+pub fn explore_routes_reverse(tables: &[u32], words: &mut [u32], marks: &mut [u64], round: Round)
+    requires { ⌜ InRound (now tables) round ⌝ }
+    requires { ⌜ round .direction ≡ Arrival ⌝ }
+    requires { ⌜ Usable (round .stops) (round .routes) (now words) (now marks) ⌝ }
+    requires { ⌜ Placed (round .direction) (netOf (now tables)) ((view (round .stops) (round .routes) (now words) (now marks)) .active) ⌝ }
+    ensures { λ _. ⌜ Does (round .stops) (round .routes)
+        (ridesWork (round .direction) (netOf (now (tables .entry))) (round .number) (round .target .0))
+        (now (words .entry)) (now (marks .entry)) (now (words .exit)) (now (marks .exit)) ⌝ }
 {
     let mut from: usize = 0;
     loop {
-        let next = allocator::next_route(marks, n, m, from);
+        let next = allocator::next_route(marks, round.stops, round.routes, from);
         match next {
             Next::At(r) => {
-                arrival::explore_route(tables, words, marks, n, m, k, target, r as u32);
+                arrival::explore_route(tables, words, marks, round, r as u32);
                 from = r + 1;
             }
             Next::Nothing => return,

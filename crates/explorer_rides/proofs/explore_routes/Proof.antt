@@ -3,18 +3,17 @@ use borrow.Author.Needs.{needs}
 use mathlib.Core.Path.{_≡_}
 use Prim.Native.Nat.{_-_}
 use lib.ListN.{length}
-use Rattle.model.specs.declared.Direction.the-variants.{Departure}
-use Rattle.explorer_rides.proofs.Routes.{fixed, next-below, next-fits, next-room, next-less, Exploring, exploring-start, exploring-step, exploring-end, exploring-tidy}
+use Rattle.explorer_rides.proofs.Routes.{next-below, next-fits, next-room, next-less, Exploring, exploring-start, exploring-step, exploring-end, exploring-usable}
 use Rattle.explorer_rides.proofs.explore_routes.Statement.{statement}
 use Rattle.explorer_rides.proofs.explore_routes.Tie as tie
 
 abbrev Inv-loop : tie.InvT-loop
-Inv-loop tables words₀ marks₀ n m k target from₀ words marks from =
-    Exploring Departure tables n m k (target .0) words₀ marks₀ words marks from
+Inv-loop tables words₀ marks₀ round from₀ words marks from =
+    Exploring tables round words₀ marks₀ words marks from
     × (length words ≡ length words₀) × (length marks ≡ length marks₀)
 
 abbrev μ-loop : tie.MeasureT-loop
-μ-loop tables words₀ marks₀ n m k target from₀ words marks from = m - from
+μ-loop tables words₀ marks₀ round from₀ words marks from = round .routes - from
 
 loop-holds : tie.Need-loop-holds Inv-loop μ-loop
 loop-holds c = (search (needs, exploring-start), search needs, search needs)
@@ -29,7 +28,7 @@ cast-explore-route : tie.Need-cast-explore-route Inv-loop μ-loop
 cast-explore-route c = record { fits = search (needs, next-fits) }
 
 explore-route-requires : tie.Need-explore-route-requires Inv-loop μ-loop
-explore-route-requires c κs = (search (needs, fixed), (search needs, (search (needs, exploring-tidy), search (needs, next-below))))
+explore-route-requires c κs = (search needs, (search needs, (search (needs, exploring-usable), search (needs, next-below))))
 
 add-from : tie.Need-add-from Inv-loop μ-loop
 add-from c = record { fits = search (needs, next-room) }
@@ -50,7 +49,7 @@ same-length-2 : tie.Need-same-length-2 Inv-loop μ-loop
 same-length-2 c = search needs
 
 returns : tie.Need-returns Inv-loop μ-loop
-returns c = (search (needs, exploring-end), search (needs, exploring-tidy))
+returns c = search (needs, exploring-end)
 
 pub explore-routes-spec : {M : Type 1} → statement M
 explore-routes-spec =

@@ -3,18 +3,17 @@ use borrow.Author.Needs.{needs}
 use mathlib.Core.Path.{_≡_}
 use Prim.Native.Nat.{_-_}
 use lib.ListN.{length}
-use Rattle.model.specs.declared.Direction.the-variants.{Arrival}
-use Rattle.explorer_rides.proofs.Routes.{fixed, next-below, next-fits, next-room, next-less, Exploring, exploring-start, exploring-step, exploring-end, exploring-tidy, placed-on}
+use Rattle.explorer_rides.proofs.Routes.{next-below, next-fits, next-room, next-less, Exploring, exploring-start, exploring-step, exploring-end, exploring-usable, placed-on}
 use Rattle.explorer_rides.proofs.explore_routes_reverse.Statement.{statement}
 use Rattle.explorer_rides.proofs.explore_routes_reverse.Tie as tie
 
 abbrev Inv-loop : tie.InvT-loop
-Inv-loop tables words₀ marks₀ n m k target from₀ words marks from =
-    Exploring Arrival tables n m k (target .0) words₀ marks₀ words marks from
+Inv-loop tables words₀ marks₀ round from₀ words marks from =
+    Exploring tables round words₀ marks₀ words marks from
     × (length words ≡ length words₀) × (length marks ≡ length marks₀)
 
 abbrev μ-loop : tie.MeasureT-loop
-μ-loop tables words₀ marks₀ n m k target from₀ words marks from = m - from
+μ-loop tables words₀ marks₀ round from₀ words marks from = round .routes - from
 
 loop-holds : tie.Need-loop-holds Inv-loop μ-loop
 loop-holds c = (search (needs, exploring-start), search needs, search needs)
@@ -30,8 +29,8 @@ cast-explore-route c = record { fits = search (needs, next-fits) }
 
 explore-route-requires : tie.Need-explore-route-requires Inv-loop μ-loop
 explore-route-requires c κs = (
-  search (needs, fixed),
-  (search needs, (search (needs, exploring-tidy), (search (needs, next-below), search (needs, placed-on, next-below)))),
+  search needs,
+  (search needs, (search (needs, exploring-usable), (search (needs, next-below), search (needs, placed-on, next-below)))),
 )
 
 add-from : tie.Need-add-from Inv-loop μ-loop
@@ -53,7 +52,7 @@ same-length-2 : tie.Need-same-length-2 Inv-loop μ-loop
 same-length-2 c = search needs
 
 returns : tie.Need-returns Inv-loop μ-loop
-returns c = (search (needs, exploring-end), search (needs, exploring-tidy))
+returns c = search (needs, exploring-end)
 
 pub explore-routes-reverse-spec : {M : Type 1} → statement M
 explore-routes-reverse-spec =

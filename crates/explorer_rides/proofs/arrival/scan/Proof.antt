@@ -3,20 +3,20 @@ use borrow.Author.Needs.{needs}
 use mathlib.Core.Path.{_≡_}
 use Prim.Native.Nat.{_+_, _-_, _≤_}
 use lib.ListN.{length}
-use Rattle.model.specs.declared.Direction.the-variants.{Arrival}
 use Rattle.repository.specs.NetOf.{netOf}
-use Rattle.explorer_rides.proofs.Scanning.{left, course-down, left-down, left-none, mark-fits, Along, along-start, along-step, along-end, along-tidy}
+use Rattle.explorer_rides.proofs.Seats.{down-room, down-call}
+use Rattle.explorer_rides.proofs.Scanning.{left, course-down, left-down, left-none, mark-fits, Along, along-start, along-step, along-end, along-usable}
 use Rattle.explorer_rides.proofs.arrival.scan.Statement.{statement}
 use Rattle.explorer_rides.proofs.arrival.scan.Tie as tie
 
 abbrev Inv-loop : tie.InvT-loop
-Inv-loop tables words₀ marks₀ stops n m k target r from ride₀ p₀ words marks ride p =
-    Along Arrival tables n m k (target .0) r from words₀ marks₀ words marks ride (left Arrival (netOf tables) r p)
+Inv-loop tables words₀ marks₀ stops round r from ride₀ p₀ words marks ride p =
+    Along tables round r from words₀ marks₀ words marks ride (left (round .direction) (netOf tables) r p)
     × (length words ≡ length words₀) × (length marks ≡ length marks₀)
     × (p ≤ from + 1)
 
 abbrev μ-loop : tie.MeasureT-loop
-μ-loop tables words₀ marks₀ stops n m k target r from ride₀ p₀ words marks ride p = p
+μ-loop tables words₀ marks₀ stops round r from ride₀ p₀ words marks ride p = p
 
 add-p : tie.Need-add-p Inv-loop μ-loop
 add-p c = record { fits = search (needs, mark-fits) }
@@ -27,8 +27,17 @@ loop-holds c = (search (needs, along-start, course-down), search needs, search n
 sub-p : tie.Need-sub-p Inv-loop μ-loop
 sub-p c = search needs
 
+cast-s : tie.Need-cast-s Inv-loop μ-loop
+cast-s c = search needs
+
+mul-s : tie.Need-mul-s Inv-loop μ-loop
+mul-s c = search needs
+
+shared-slice-read-s : tie.Need-shared-slice-read-s Inv-loop μ-loop
+shared-slice-read-s c = search (needs, down-room)
+
 ride-at-requires : tie.Need-ride-at-requires Inv-loop μ-loop
-ride-at-requires c κs = (search needs, (search needs, (search needs, (search needs, search (needs, along-tidy)))))
+ride-at-requires c κs = (search needs, (search (needs, down-call), (search needs, search (needs, along-usable))))
 
 loop-less : tie.Need-loop-less Inv-loop μ-loop
 loop-less c = search needs
@@ -43,7 +52,7 @@ same-length-2 : tie.Need-same-length-2 Inv-loop μ-loop
 same-length-2 c = search needs
 
 returns : tie.Need-returns Inv-loop μ-loop
-returns c = (search (needs, along-end, left-none), search (needs, along-tidy))
+returns c = search (needs, along-end, left-none)
 
 pub scan-spec : {M : Type 1} → statement M
 scan-spec =
@@ -54,6 +63,9 @@ scan-spec =
     add-p
     loop-holds
     sub-p
+    cast-s
+    mul-s
+    shared-slice-read-s
     ride-at-requires
     loop-less
     loop-again

@@ -20,7 +20,7 @@ same-length-2 : tie.Need-same-length-2
 same-length-2 c = search needs
 
 returns : tie.Need-returns
-returns c = (search (needs, route-is), search needs)
+returns c = search (needs, route-is)
 
 pub explore-route-spec : {M : Type 1} → statement M
 explore-route-spec =

@@ -1,21 +1,18 @@
 -- `alight`: who is aboard proposes.
 use borrow.Author.Needs.{needs}
-use Rattle.explorer_rides.proofs.Seats.{stop-in, seat-on, times-known}
+use Rattle.explorer_rides.proofs.Seats.{call-in, seat-on}
 use Rattle.explorer_rides.proofs.Alighting.{alight-off, alight-not, alight-take}
 use Rattle.explorer_rides.proofs.position.alight.Statement.{statement}
 use Rattle.explorer_rides.proofs.position.alight.Tie as tie
 
 returns : tie.Need-returns
-returns c = (search (needs, alight-off), search needs)
-
-reaches-at-requires : tie.Need-reaches-at-requires
-reaches-at-requires c κs = (search needs, search (needs, times-known))
+returns c = search (needs, alight-off)
 
 passes-requires : tie.Need-passes-requires
-passes-requires c κs = (search needs, search (needs, stop-in))
+passes-requires c κs = (search needs, (search (needs, seat-on), (search needs, search (needs, call-in))))
 
 propose-requires : tie.Need-propose-requires
-propose-requires c κs = (search needs, (search needs, (search needs, (search (needs, stop-in), search (needs, seat-on)))))
+propose-requires c κs = (search needs, (search needs, (search needs, search (needs, seat-on))))
 
 same-length : tie.Need-same-length
 same-length c = search needs
@@ -24,20 +21,19 @@ same-length-2 : tie.Need-same-length-2
 same-length-2 c = search needs
 
 returns-2 : tie.Need-returns-2
-returns-2 c = (search (needs, alight-take), search needs)
+returns-2 c = search (needs, alight-take)
 
 same-length-3 : tie.Need-same-length-3
 same-length-3 c = search needs
 
 returns-3 : tie.Need-returns-3
-returns-3 c = (search (needs, alight-not), search needs)
+returns-3 c = search (needs, alight-not)
 
 pub alight-spec : {M : Type 1} → statement M
 alight-spec =
     tie.close
     (tie.spec
     returns
-    reaches-at-requires
     passes-requires
     propose-requires
     same-length

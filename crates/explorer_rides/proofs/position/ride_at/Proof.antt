@@ -1,21 +1,15 @@
 -- `ride_at`: alight, then board.
 use borrow.Author.Needs.{needs}
-use Rattle.explorer_rides.proofs.Seats.{stop-room, stop-read, stop-here}
+use Rattle.explorer_rides.proofs.Seats.{call-in}
 use Rattle.explorer_rides.proofs.Boarding.{board-is}
 use Rattle.explorer_rides.proofs.position.ride_at.Statement.{statement}
 use Rattle.explorer_rides.proofs.position.ride_at.Tie as tie
 
-mul-s : tie.Need-mul-s
-mul-s c = search needs
-
-shared-slice-read-s : tie.Need-shared-slice-read-s
-shared-slice-read-s c = search (needs, stop-room)
-
 prev-at-requires : tie.Need-prev-at-requires
-prev-at-requires c κs = search (needs, stop-here)
+prev-at-requires c κs = search (needs, call-in)
 
 alight-requires : tie.Need-alight-requires
-alight-requires c κs = (search (needs, stop-read), (search needs, (search needs, (search needs, (search needs, search needs)))))
+alight-requires c κs = (search needs, (search needs, (search needs, search needs)))
 
 board-requires : tie.Need-board-requires
 board-requires c κs = search needs
@@ -27,14 +21,12 @@ same-length-2 : tie.Need-same-length-2
 same-length-2 c = search needs
 
 returns : tie.Need-returns
-returns c = (search needs, (search needs, (search (needs, board-is, stop-read), search needs)))
+returns c = (search needs, (search (needs, board-is), search needs))
 
 pub ride-at-spec : {M : Type 1} → statement M
 ride-at-spec =
     tie.close
     (tie.spec
-    mul-s
-    shared-slice-read-s
     prev-at-requires
     alight-requires
     board-requires

@@ -17,8 +17,8 @@ shared-slice-read-near c = search (needs, seat-room)
 leaves-at-requires : tie.Need-leaves-at-requires
 leaves-at-requires c κs = (search needs, search (needs, seat-times))
 
-ride-leg-requires : tie.Need-ride-leg-requires
-ride-leg-requires c κs = search needs
+leg-of-requires : tie.Need-leg-of-requires
+leg-of-requires c κs = search needs
 
 returns : tie.Need-returns
 returns c = search (needs, leg-is)
@@ -26,4 +26,4 @@ returns c = search (needs, leg-is)
 pub leg-from-spec : {M : Type 1} → statement M
 leg-from-spec =
     tie.close
-    (tie.spec cast-b mul-near shared-slice-read-near leaves-at-requires ride-leg-requires returns)
+    (tie.spec cast-b mul-near shared-slice-read-near leaves-at-requires leg-of-requires returns)

@@ -1,8 +1,12 @@
 -- `passes`: both tests of a proposal.
 use borrow.Author.Needs.{needs}
+use Rattle.explorer_rides.proofs.Seats.{times-in}
 use Rattle.explorer_rides.proofs.Alighting.{both-tested, one-failed}
 use Rattle.explorer_rides.proofs.seat.passes.Statement.{statement}
 use Rattle.explorer_rides.proofs.seat.passes.Tie as tie
+
+reaches-at-requires : tie.Need-reaches-at-requires
+reaches-at-requires c κs = (search needs, search (needs, times-in))
 
 is-ahead-requires : tie.Need-is-ahead-requires
 is-ahead-requires c κs = search needs
@@ -21,4 +25,4 @@ returns-2 c = search (needs, one-failed)
 
 pub passes-spec : {M : Type 1} → statement M
 passes-spec =
-    tie.close (tie.spec is-ahead-requires best-at-requires is-better-requires returns returns-2)
+    tie.close (tie.spec reaches-at-requires is-ahead-requires best-at-requires is-better-requires returns returns-2)
