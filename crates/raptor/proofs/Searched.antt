@@ -45,42 +45,25 @@ module _ {n : Net} {k : ℕ} {l : Location} {area : List ℕ} (p : Place n k l a
   stop-known e = stop-there n e (p .there)
 
   -- the stops of a stop, as the tables list them
-  pub listed-below : {s : ℕ} {ss : List ℕ} → l ≡ Stop s → ss ≡ placeStops n (Stop s) → Below k ss
-  listed-below e f = subst (Below k) (sym (f ∙ ap (placeStops n) (sym e))) (p .below)
+  pub stop-is : {s : ℕ} {ss : List ℕ} → l ≡ Stop s → ss ≡ placeStops n (Stop s) → ss ≡ placeStops n l
+  stop-is e f = f ∙ ap (placeStops n) (sym e)
 
   -- the stops of an area, as they stand in the workspace
-  area-is : {a : ℕ} → l ≡ Area a → area ≡ placeStops n l
+  pub area-is : {a : ℕ} → l ≡ Area a → area ≡ placeStops n l
   unfolding areaPart placeStops
   area-is e = rw e (rw e at (p .stands))
 
-  pub area-below : {a : ℕ} → l ≡ Area a → Below k area
-  area-below e = subst (Below k) (sym (area-is e)) (p .below)
-
-  module _ (d : Direction) (mode : Mode) (walking : Bool) (t : ℕ) {s : State} where
-    pub to-stop : {u : ℕ} (ss : List ℕ) {gs : List ℕ} → gs ≡ placeStops n (Stop u)
-        → s ≡ search n (task d mode walking ss gs t) listed → l ≡ Stop u → s ≡ search n (task d mode walking ss (placeStops n l) t) listed
-    to-stop ss f g e = rw (f ∙ ap (placeStops n) (sym e)) at g
-
-    pub to-area : {a : ℕ} (ss : List ℕ) → l ≡ Area a
-        → s ≡ search n (task d mode walking ss area t) listed → s ≡ search n (task d mode walking ss (placeStops n l) t) listed
-    to-area ss e g = rw (area-is e) at g
-
-    pub from-stop : {u : ℕ} {ss : List ℕ} (gs : List ℕ) → l ≡ Stop u → ss ≡ placeStops n (Stop u)
-        → s ≡ search n (task d mode walking ss gs t) listed → s ≡ search n (task d mode walking (placeStops n l) gs t) listed
-    from-stop gs e f g = rw (f ∙ ap (placeStops n) (sym e)) at g
-
-    pub from-area : {a : ℕ} (gs : List ℕ) → l ≡ Area a
-        → s ≡ search n (task d mode walking area gs t) listed → s ≡ search n (task d mode walking (placeStops n l) gs t) listed
-    from-area gs e g = rw (area-is e) at g
+  pub place-below : {ss : List ℕ} → ss ≡ placeStops n l → Below k ss
+  place-below f = subst (Below k) (sym f) (p .below)
 
 -- a query, by its direction
 module _ (n : Net) (q : Query) {c : TimeConstraint} {w : Bool} {t : Time} (ec : c ≡ q .time) (ew : w ≡ mayWalk (q .walks)) {s : State} where
-  pub departing-is : c ≡ Departure t
-      → s ≡ search n (task Departing (q .mode) w (placeStops n (q .from)) (placeStops n (q .to)) (t .0)) listed → s ≡ searched n q
+  pub departing-is : {ss gs : List ℕ} → c ≡ Departure t → ss ≡ placeStops n (q .from) → gs ≡ placeStops n (q .to)
+      → s ≡ search n (task Departing (q .mode) w ss gs (t .0)) listed → s ≡ searched n q
   unfolding searched taskOf taskBy
-  departing-is e g = rw (← ec, e, ← ew) g
+  departing-is e f h g = rw (← ec, e, ← ew) (rw (f, h) at g)
 
-  pub arriving-is : c ≡ Arrival t
-      → s ≡ search n (task Arriving (q .mode) w (placeStops n (q .to)) (placeStops n (q .from)) (t .0)) listed → s ≡ searched n q
+  pub arriving-is : {ss gs : List ℕ} → c ≡ Arrival t → ss ≡ placeStops n (q .to) → gs ≡ placeStops n (q .from)
+      → s ≡ search n (task Arriving (q .mode) w ss gs (t .0)) listed → s ≡ searched n q
   unfolding searched taskOf taskBy
-  arriving-is e g = rw (← ec, e, ← ew) g
+  arriving-is e f h g = rw (← ec, e, ← ew) (rw (f, h) at g)

@@ -9,6 +9,7 @@ ghost use Rattle.model.specs.Left.{placed};
 ghost use Rattle.model.specs.Round.{listed};
 ghost use Rattle.model.specs.Search.{search as searchOf};
 ghost use Rattle.model.specs.Work.{stateOf};
+ghost use Rattle.repository.specs.Accepted.{Accepted};
 ghost use Rattle.repository.specs.NetOf.{netOf};
 ghost use Rattle.allocator.specs.Layout.{Sized, view};
 ghost use Rattle.allocator.specs.Tidy.{Tidy};
@@ -23,72 +24,25 @@ use model::Target;
 use model::TimeConstraint;
 use raptor_rounds::Ask;
 
-// The search towards a place. A stop's stops stand in the tables, an area's in `area`.
-fn search_to(
-    tables: &[u32],
-    words: &mut [u32],
-    marks: &mut [u64],
-    n: u32,
-    m: u32,
-    a: Ask,
-    starts: &[u32],
-    to: Location,
-    area: &[u32],
-) -> Target
-    requires { ⌜ Tabled (now tables) n m ⌝ }
-    requires { ⌜ Sized n m (now words) (now marks) ⌝ }
-    requires { ⌜ Below n (now starts) ⌝ }
-    requires { ⌜ Place (netOf (now tables)) n to (now area) ⌝ }
-    requires { ⌜ 0 < a .moment .0 ⌝ }
-    ensures { λ g. ⌜ stateOf (view n m (now (words .exit)) (now (marks .exit))) g ≡ searchOf (netOf (now (tables .entry))) (task (a .direction) (a .mode) (a .walking) (now (starts .entry)) (placeStops (netOf (now (tables .entry))) to) (a .moment .0)) listed ⌝ }
-    ensures { λ _. ⌜ Tidy n m (now (words .exit)) (now (marks .exit)) ⌝ }
+// The stops of a place: a stop's stand in the tables, an area's in `area`.
+fn stops_of<'a>(tables: &'a [u32], n: u32, at: Location, area: &'a [u32]) -> &'a [u32]
+    requires { ⌜ Accepted (now tables) ⌝ }
+    requires { ⌜ Place (netOf (now tables)) n at (now area) ⌝ }
+    ensures { λ q. ⌜ now q ≡ placeStops (netOf (now (tables .entry))) at ⌝ }
 {
-    match to {
-        Location::Stop(s) => {
-            let goals = discovery::places::stops_of_stop(tables, s);
-            return raptor_rounds::search(tables, words, marks, n, m, a, starts, goals);
-        }
-        Location::Area(_) => raptor_rounds::search(tables, words, marks, n, m, a, starts, area),
-    }
-}
-
-// The search from one place to another; `starts` and `goals` are the stops of those that are areas.
-fn search_between(
-    tables: &[u32],
-    words: &mut [u32],
-    marks: &mut [u64],
-    n: u32,
-    m: u32,
-    a: Ask,
-    from: Location,
-    starts: &[u32],
-    to: Location,
-    goals: &[u32],
-) -> Target
-    requires { ⌜ Tabled (now tables) n m ⌝ }
-    requires { ⌜ Sized n m (now words) (now marks) ⌝ }
-    requires { ⌜ Place (netOf (now tables)) n from (now starts) ⌝ }
-    requires { ⌜ Place (netOf (now tables)) n to (now goals) ⌝ }
-    requires { ⌜ 0 < a .moment .0 ⌝ }
-    ensures { λ g. ⌜ stateOf (view n m (now (words .exit)) (now (marks .exit))) g ≡ searchOf (netOf (now (tables .entry))) (task (a .direction) (a .mode) (a .walking) (placeStops (netOf (now (tables .entry))) from) (placeStops (netOf (now (tables .entry))) to) (a .moment .0)) listed ⌝ }
-    ensures { λ _. ⌜ Tidy n m (now (words .exit)) (now (marks .exit)) ⌝ }
-{
-    match from {
-        Location::Stop(s) => {
-            let stops = discovery::places::stops_of_stop(tables, s);
-            return search_to(tables, words, marks, n, m, a, stops, to, goals);
-        }
-        Location::Area(_) => search_to(tables, words, marks, n, m, a, starts, to, goals),
+    match at {
+        Location::Stop(s) => discovery::places::stops_of_stop(tables, s),
+        Location::Area(_) => area,
     }
 }
 
 // The search of a query: a departure search goes from the origins, an arrival search from the destinations.
-fn search_for(
-    tables: &[u32],
+fn search_for<'a>(
+    tables: &'a [u32],
     words: &mut [u32],
     marks: &mut [u64],
-    origins: &[u32],
-    goals: &[u32],
+    origins: &'a [u32],
+    goals: &'a [u32],
     n: u32,
     m: u32,
     q: Query,
@@ -107,6 +61,8 @@ fn search_for(
     let walks = q.walks;
     let walking = raptor_query::may_walk(walks);
     let time = q.time;
+    let left = stops_of(tables, n, from, origins);
+    let reached = stops_of(tables, n, to, goals);
     match time {
         TimeConstraint::Departure(t) => {
             let a = Ask {
@@ -115,7 +71,7 @@ fn search_for(
                 walking: walking,
                 moment: t,
             };
-            return search_between(tables, words, marks, n, m, a, from, origins, to, goals);
+            return raptor_rounds::search(tables, words, marks, n, m, a, left, reached);
         }
         TimeConstraint::Arrival(t) => {
             let a = Ask {
@@ -124,17 +80,17 @@ fn search_for(
                 walking: walking,
                 moment: t,
             };
-            return search_between(tables, words, marks, n, m, a, to, goals, from, origins);
+            return raptor_rounds::search(tables, words, marks, n, m, a, reached, left);
         }
     }
 }
 
 // The same, with the areas' stops where `write_places` put them: i in the first half, k in the second.
-fn search_in(
-    tables: &[u32],
+fn search_in<'a>(
+    tables: &'a [u32],
     words: &mut [u32],
     marks: &mut [u64],
-    places: &[u32],
+    places: &'a [u32],
     n: u32,
     m: u32,
     q: Query,

@@ -1,18 +1,27 @@
 -- `raptor::searching::search_for` meets its contract: each direction starts where it is asked to.
 use borrow.Author.Needs.{needs}
 use Rattle.raptor.proofs.Placing.{asked-departure, asked-arrival}
-use Rattle.raptor.proofs.Searched.{departing-is, arriving-is}
+use Rattle.raptor.proofs.Searched.{tabled-fixed, tabled-accepted, place-below, departing-is, arriving-is}
 use Rattle.raptor.proofs.searching.search_for.Statement.{statement}
 use Rattle.raptor.proofs.searching.search_for.Tie as tie
 
 may-walk-requires : tie.Need-may-walk-requires
 may-walk-requires c κs = search needs
 
+stops-of-requires : tie.Need-stops-of-requires
+stops-of-requires c κs = (search (needs, tabled-accepted), search needs)
+
+stops-of-requires-2 : tie.Need-stops-of-requires-2
+stops-of-requires-2 c κs = (search (needs, tabled-accepted), search needs)
+
 enum-known-time : tie.Need-enum-known-time
 enum-known-time c = search needs
 
-search-between-requires : tie.Need-search-between-requires
-search-between-requires c κs = (search needs, (search needs, (search needs, (search needs, search (needs, asked-departure)))))
+search-requires : tie.Need-search-requires
+search-requires c κs = (
+  search (needs, tabled-fixed),
+  (search needs, (search (needs, place-below), (search (needs, place-below), search (needs, asked-departure)))),
+)
 
 same-length : tie.Need-same-length
 same-length c = search needs
@@ -26,8 +35,11 @@ returns c = (search (needs, departing-is), search needs)
 enum-known-time-2 : tie.Need-enum-known-time-2
 enum-known-time-2 c = search needs
 
-search-between-requires-2 : tie.Need-search-between-requires-2
-search-between-requires-2 c κs = (search needs, (search needs, (search needs, (search needs, search (needs, asked-arrival)))))
+search-requires-2 : tie.Need-search-requires-2
+search-requires-2 c κs = (
+  search (needs, tabled-fixed),
+  (search needs, (search (needs, place-below), (search (needs, place-below), search (needs, asked-arrival)))),
+)
 
 same-length-3 : tie.Need-same-length-3
 same-length-3 c = search needs
@@ -43,13 +55,15 @@ search-for-spec =
     tie.close
     (tie.spec
     may-walk-requires
+    stops-of-requires
+    stops-of-requires-2
     enum-known-time
-    search-between-requires
+    search-requires
     same-length
     same-length-2
     returns
     enum-known-time-2
-    search-between-requires-2
+    search-requires-2
     same-length-3
     same-length-4
     returns-2)
