@@ -11,6 +11,7 @@ use Rattle.base.specs.Choice.{cond-elim}
 use Rattle.model.specs.declared.Query.{Query}
 use Rattle.repository.specs.Checked.{checkOf}
 use Rattle.check_tables.proofs.Whole.{check-most}
+use Rattle.raptor.specs.Lent.{Lent}
 use Rattle.raptor.proofs.Promises.{length-most, number-12, too-long-length}
 use Rattle.kiosk_c.specs.Face.{shortNumber, Faced}
 
@@ -19,13 +20,13 @@ short-few : (fault : ℕ) → fault ≤ 5 → shortNumber fault ≤ 6
 unfolding shortNumber
 short-few fault h = cond-elim (λ x. x ≤ 6) (eqb fault 0) _ _ (λ e. omega arith) (λ e. omega arith)
 
-pub never-too-long : (t : List ℕ) (q : Query) (w y p j a : List ℕ) {r : ℕ} {w′ y′ p′ j′ a′ : List ℕ}
-    → Faced t q w y p j a r w′ y′ p′ j′ a′ → 69_692 ≤ length j → r ≢ 12
-never-too-long t q w y p j a f l e =
+pub never-too-long : (t : List ℕ) (q : Query) (before : Lent) (a : List ℕ) {r : ℕ} {after : Lent} {a′ : List ℕ}
+    → Faced t q before a r after a′ → 69_692 ≤ length (before .journey) → r ≢ 12
+never-too-long t q before a f l e =
     elim (decLt (length a) 5) [
       | yes h ↦ omega (arith, short-few (checkOf t) (check-most t), f .short h .0)
       | no h ↦
           let x = f .solved (omega arith) in
-          let b = too-long-length t q w y p j (x .1) (number-12 t q w y p j (x .1) (sym (x .2) ∙ e)) in
-          omega (arith, length-most t q w y p j (x .1), b .1)
+          let b = too-long-length t q before (x .1) (number-12 t q before (x .1) (sym (x .2) ∙ e)) in
+          omega (arith, length-most t q before (x .1), b .1)
     ]

@@ -13,6 +13,7 @@ use Rattle.model.specs.declared.Answer.the-variants.{Found}
 use Rattle.model.specs.declared.Query.{Query}
 use Rattle.model.specs.Answer.{given}
 use Rattle.repository.specs.Checked.{checkOf}
+use Rattle.raptor.specs.Lent.{Lent}
 use Rattle.raptor.specs.Solved.{Solved}
 use Rattle.raptor.proofs.Promises.{number-0}
 use Rattle.kiosk_words.specs.Words.{toldIn}
@@ -24,19 +25,19 @@ unfolding shortNumber
 short-some zero e = omega arith
 short-some (suc k) e = let f : suc k ≡ 0 = rw (ne-eqb (suc k) 0 (λ g. omega arith)) at e in omega arith
 
-module _ (t : List ℕ) (q : Query) (w y p j a : List ℕ) where
+module _ (t : List ℕ) (q : Query) (before : Lent) (a : List ℕ) where
   -- the answer that is known to be a journey, where the contract names it
-  solved-so : {x : Answer} {w′ y′ p′ j′ : List ℕ} {time : Time} {s k z : ℕ} → x ≡ Found time s k z → Solved t q w y p j x w′ y′ p′ j′
-      → Solved t q w y p j (Found time s k z) w′ y′ p′ j′
-  solved-so {w′ = w′} {y′ = y′} {p′ = p′} {j′ = j′} e h = subst (λ (b : Answer). Solved t q w y p j b w′ y′ p′ j′) e h
+  solved-so : {x : Answer} {after : Lent} {time : Time} {s k z : ℕ} → x ≡ Found time s k z → Solved t q before x after
+      → Solved t q before (Found time s k z) after
+  solved-so {after = after} e h = subst (λ (b : Answer). Solved t q before b after) e h
 
   told-so : {x : Answer} {a′ : List ℕ} {time : Time} {s k z : ℕ} → x ≡ Found time s k z → a′ ≡ toldIn (given x) a
       → a′ ≡ 0 ∷ time .0 ∷ s ∷ k ∷ z ∷ drop 5 a
   unfolding given toldIn
   told-so e h = h ∙ ap (λ (b : Answer). toldIn (given b) a) e
 
-  pub faced-found : {r : ℕ} {w′ y′ p′ j′ a′ : List ℕ} → Faced t q w y p j a r w′ y′ p′ j′ a′ → r ≡ 0
-      → (time : Time) × (s : ℕ) × (k : ℕ) × (z : ℕ) × Solved t q w y p j (Found time s k z) w′ y′ p′ j′
+  pub faced-found : {r : ℕ} {after : Lent} {a′ : List ℕ} → Faced t q before a r after a′ → r ≡ 0
+      → (time : Time) × (s : ℕ) × (k : ℕ) × (z : ℕ) × Solved t q before (Found time s k z) after
       × (a′ ≡ 0 ∷ time .0 ∷ s ∷ k ∷ z ∷ drop 5 a)
   faced-found f e =
       elim (decLt (length a) 5) [
@@ -44,6 +45,6 @@ module _ (t : List ℕ) (q : Query) (w y p j a : List ℕ) where
         | no h ↦
             let x = f .solved (omega arith) in
             let g = given (x .0) in
-            let n = number-0 t q w y p j (x .1) (sym (x .2) ∙ e) in
+            let n = number-0 t q before (x .1) (sym (x .2) ∙ e) in
             (record { 0 = g .time }, g .stop, g .round, g .length, solved-so n (x .1), told-so n (x .3))
       ]

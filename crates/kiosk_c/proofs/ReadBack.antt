@@ -12,6 +12,7 @@ use Rattle.model.specs.declared.Query.{Query}
 use Rattle.model.specs.Answer.{legsOf}
 use Rattle.model.specs.Bytes.{legs, read, legSize}
 use Rattle.repository.specs.NetOf.{netOf}
+use Rattle.raptor.specs.Lent.{Lent}
 use Rattle.raptor.specs.Solved.{Solved}
 use Rattle.raptor.proofs.Promises.{reads-back}
 use Rattle.journey.specs.Reading.{legFrom}
@@ -49,11 +50,11 @@ module _ (b : List ℕ) where
       cc
 
 -- where `kiosk_solve` gives 0, as many bytes of the journey as its answer's length says are walked as the legs of the search
-module _ (t : List ℕ) (q : Query) (w y p j a : List ℕ) where
-  walked : {w′ y′ p′ j′ a′ : List ℕ} {time : Time} {s k z : ℕ} → Solved t q w y p j (Found time s k z) w′ y′ p′ j′
-      → a′ ≡ 0 ∷ time .0 ∷ s ∷ k ∷ z ∷ drop 5 a → FaceLegsFrom (take (getD a′ 4 0) j′) 0 (legsOf (netOf t) q)
-  walked {j′ = j′} {z = z} h e = rw e (face-legs-from (take z j′) (legsOf (netOf t) q) (reads-back t q w y p j h refl))
+module _ (t : List ℕ) (q : Query) (before : Lent) (a : List ℕ) where
+  walked : {after : Lent} {a′ : List ℕ} {time : Time} {s k z : ℕ} → Solved t q before (Found time s k z) after
+      → a′ ≡ 0 ∷ time .0 ∷ s ∷ k ∷ z ∷ drop 5 a → FaceLegsFrom (take (getD a′ 4 0) (after .journey)) 0 (legsOf (netOf t) q)
+  walked {after} {z = z} h e = rw e (face-legs-from (take z (after .journey)) (legsOf (netOf t) q) (reads-back t q before h refl))
 
-  pub faced-legs : {r : ℕ} {w′ y′ p′ j′ a′ : List ℕ} → Faced t q w y p j a r w′ y′ p′ j′ a′ → r ≡ 0
-      → FaceLegsFrom (take (getD a′ 4 0) j′) 0 (legsOf (netOf t) q)
-  faced-legs f e = let g = faced-found t q w y p j a f e in walked (g .4) (g .5)
+  pub faced-legs : {r : ℕ} {after : Lent} {a′ : List ℕ} → Faced t q before a r after a′ → r ≡ 0
+      → FaceLegsFrom (take (getD a′ 4 0) (after .journey)) 0 (legsOf (netOf t) q)
+  faced-legs f e = let g = faced-found t q before a f e in walked (g .4) (g .5)

@@ -13,6 +13,7 @@ use Rattle.model.specs.Answer.{given}
 use Rattle.repository.specs.Accepted.{Accepted}
 use Rattle.repository.specs.Checked.{checkOf}
 use Rattle.check_tables.proofs.Whole.{accepted-is}
+use Rattle.raptor.specs.Lent.{Lent}
 use Rattle.raptor.specs.Solved.{Solved}
 use Rattle.raptor.proofs.Promises.{length-most}
 use Rattle.kiosk_words.specs.Words.{toldIn}
@@ -33,21 +34,21 @@ module _ (t : List ℕ) {c : ℕ} (e : c ≡ checkOf t) where
   unfolding shortNumber
   short-own h = rw (← e, ne-eqb c 0 h)
 
-module _ (t : List ℕ) (q : Query) (w y p j a : List ℕ) where
-  pub too-short : {r : ℕ} → length a < 5 → r ≡ shortNumber (checkOf t) → Faced t q w y p j a r w y p j a
-  too-short h e = record { short = λ g. (e, refl, refl, refl, refl, refl); solved = λ g. absurd (omega arith) }
+module _ (t : List ℕ) (q : Query) (before : Lent) (a : List ℕ) where
+  pub too-short : {r : ℕ} → length a < 5 → r ≡ shortNumber (checkOf t) → Faced t q before a r before a
+  too-short h e = record { short = λ g. (e, refl, refl); solved = λ g. absurd (omega arith) }
 
-  pub too-short-checked : Accepted t → length a < 5 → Faced t q w y p j a 6 w y p j a
+  pub too-short-checked : Accepted t → length a < 5 → Faced t q before a 6 before a
   too-short-checked c h = too-short h (short-none t (sym (accepted-is t .1 c)) refl)
 
   -- ---- an answer that holds five words
-  pub faced : {u : Query} {x : Answer} {r : ℕ} {w′ y′ p′ j′ a′ : List ℕ} → 5 ≤ length a → u ≡ q → Solved t u w y p j x w′ y′ p′ j′
-      → r ≡ (given x) .number → a′ ≡ toldIn (given x) a → Faced t q w y p j a r w′ y′ p′ j′ a′
-  faced {x = x} {w′ = w′} {y′ = y′} {p′ = p′} {j′ = j′} h e s f g = record {
+  pub faced : {u : Query} {x : Answer} {r : ℕ} {after : Lent} {a′ : List ℕ} → 5 ≤ length a → u ≡ q → Solved t u before x after
+      → r ≡ (given x) .number → a′ ≡ toldIn (given x) a → Faced t q before a r after a′
+  faced {x = x} {after = after} h e s f g = record {
     short = λ i. absurd (omega arith);
-    solved = λ i. (x, subst (λ (v : Query). Solved t v w y p j x w′ y′ p′ j′) e s, f, g);
+    solved = λ i. (x, subst (λ (v : Query). Solved t v before x after) e s, f, g);
   }
 
-pub length-fits : {t : List ℕ} {q : Query} {w y p j : List ℕ} {x : Answer} {w′ y′ p′ j′ : List ℕ} → Solved t q w y p j x w′ y′ p′ j′
+pub length-fits : {t : List ℕ} {q : Query} {before : Lent} {x : Answer} {after : Lent} → Solved t q before x after
     → (given x) .length < 4_294_967_296
-length-fits {t} {q} {w} {y} {p} {j} s = omega (arith, length-most t q w y p j s)
+length-fits {t} {q} {before} s = omega (arith, length-most t q before s)

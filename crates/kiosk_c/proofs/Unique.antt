@@ -8,28 +8,25 @@ use lib.ListN.{length}
 use Rattle.model.specs.declared.Answer.{Answer}
 use Rattle.model.specs.declared.Query.{Query}
 use Rattle.model.specs.Answer.{given}
+use Rattle.raptor.specs.Lent.{Lent}
 use Rattle.raptor.proofs.Unique.{solved-unique}
 use Rattle.kiosk_words.specs.Words.{toldIn}
 use Rattle.kiosk_c.specs.Face.{Faced}
 
-pub faced-unique : (t : List ℕ) (q : Query) (w y p j a : List ℕ) {r r′ : ℕ} {w₁ y₁ p₁ j₁ a₁ w₂ y₂ p₂ j₂ a₂ : List ℕ}
-    → Faced t q w y p j a r w₁ y₁ p₁ j₁ a₁ → Faced t q w y p j a r′ w₂ y₂ p₂ j₂ a₂
-    → (r ≡ r′) × (w₁ ≡ w₂) × (y₁ ≡ y₂) × (p₁ ≡ p₂) × (j₁ ≡ j₂) × (a₁ ≡ a₂)
-faced-unique t q w y p j a f g =
+pub faced-unique : (t : List ℕ) (q : Query) (before : Lent) (a : List ℕ) {r r′ : ℕ} {after after′ : Lent} {a₁ a₂ : List ℕ}
+    → Faced t q before a r after a₁ → Faced t q before a r′ after′ a₂ → (r ≡ r′) × (after ≡ after′) × (a₁ ≡ a₂)
+faced-unique t q before a f g =
     elim (decLt (length a) 5) [
       | yes h ↦
           let x = f .short h in
           let z = g .short h in
-          (x .0 ∙ sym (z .0), x .1 ∙ sym (z .1), x .2 ∙ sym (z .2), x .3 ∙ sym (z .3), x .4 ∙ sym (z .4), x .5 ∙ sym (z .5))
+          (x .0 ∙ sym (z .0), x .1 ∙ sym (z .1), x .2 ∙ sym (z .2))
       | no h ↦
           let x = f .solved (omega arith) in
           let z = g .solved (omega arith) in
-          let u = solved-unique t q w y p j (x .1) (z .1) in (
+          let u = solved-unique t q before (x .1) (z .1) in (
             x .2 ∙ ap (λ (b : Answer). (given b) .number) (u .0) ∙ sym (z .2),
             u .1,
-            u .2,
-            u .3,
-            u .4,
             x .3 ∙ ap (λ (b : Answer). toldIn (given b) a) (u .0) ∙ sym (z .3),
           )
     ]

@@ -11,6 +11,7 @@ use Rattle.model.specs.Answer.{Given, given}
 use Rattle.repository.specs.Checked.{checkOf}
 use Rattle.allocator.specs.Layout.{wordsRoom, marksRoom}
 use Rattle.repository.specs.NetOf.{netOf}
+use Rattle.raptor.specs.Lent.{Lent}
 use Rattle.raptor.specs.Solved.{placesRoom, Solved}
 use Rattle.kiosk_words.specs.Words.{toldIn}
 
@@ -18,11 +19,10 @@ use Rattle.kiosk_words.specs.Words.{toldIn}
 unfoldable pub shortNumber : ℕ → ℕ
 shortNumber fault = cond (eqb fault 0) 6 fault
 
--- what a call answers and leaves: in an answer too short for it nothing is told, and nothing is touched
-pub record Faced (t : List ℕ) (q : Query) (w y p j a : List ℕ) (r : ℕ) (w′ y′ p′ j′ a′ : List ℕ) : Type 0 where
-  pub short : length a < 5 → (r ≡ shortNumber (checkOf t)) × (w′ ≡ w) × (y′ ≡ y) × (p′ ≡ p) × (j′ ≡ j) × (a′ ≡ a)
-  pub solved : 5 ≤ length a
-      → (x : Answer) × Solved t q w y p j x w′ y′ p′ j′ × (r ≡ (given x) .number) × (a′ ≡ toldIn (given x) a)
+-- what a call answers and leaves, a its answer's words: in an answer too short for it nothing is told, and nothing is touched
+pub record Faced (t : List ℕ) (q : Query) (before : Lent) (a : List ℕ) (r : ℕ) (after : Lent) (a′ : List ℕ) : Type 0 where
+  pub short : length a < 5 → (r ≡ shortNumber (checkOf t)) × (after ≡ before) × (a′ ≡ a)
+  pub solved : 5 ≤ length a → (x : Answer) × Solved t q before x after × (r ≡ (given x) .number) × (a′ ≡ toldIn (given x) a)
 
 -- the room: its three lengths where the tables are accepted and there are three words for them
 unfoldable pub roomNumber : List ℕ → List ℕ → ℕ

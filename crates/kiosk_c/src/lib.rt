@@ -2,6 +2,7 @@
 ghost use mathlib.Core.Path.{_≡_};
 ghost use Rattle.repository.specs.Accepted.{Accepted};
 ghost use Rattle.repository.specs.Checked.{checkOf};
+ghost use Rattle.raptor.specs.Lent.{lent};
 ghost use Rattle.kiosk_words.specs.Words.{queryOf};
 ghost use Rattle.kiosk_c.specs.Face.{shortNumber, Faced, roomNumber, roomLeft};
 use raptor::Needed;
@@ -71,7 +72,9 @@ pub extern "C" fn kiosk_solve(
     mode: u32,
     answer: &mut [u32],
 ) -> u32
-    ensures { λ r. ⌜ Faced (now (tables .entry)) (queryOf «from_kind» from «to_kind» to when moment walks mode) (now (words .entry)) (now (marks .entry)) (now (places .entry)) (now (journey .entry)) (now (answer .entry)) r (now (words .exit)) (now (marks .exit)) (now (places .exit)) (now (journey .exit)) (now (answer .exit)) ⌝ }
+    ensures { λ r. ⌜ Faced (now (tables .entry)) (queryOf «from_kind» from «to_kind» to when moment walks mode)
+        (lent (now (words .entry)) (now (marks .entry)) (now (places .entry)) (now (journey .entry))) (now (answer .entry)) r
+        (lent (now (words .exit)) (now (marks .exit)) (now (places .exit)) (now (journey .exit))) (now (answer .exit)) ⌝ }
 {
     if answer.len() < 5 {
         return short_number(tables);
@@ -100,7 +103,9 @@ pub extern "C" fn kiosk_solve_checked(
     answer: &mut [u32],
 ) -> u32
     requires { ⌜ Accepted (now tables) ⌝ }
-    ensures { λ r. ⌜ Faced (now (tables .entry)) (queryOf «from_kind» from «to_kind» to when moment walks mode) (now (words .entry)) (now (marks .entry)) (now (places .entry)) (now (journey .entry)) (now (answer .entry)) r (now (words .exit)) (now (marks .exit)) (now (places .exit)) (now (journey .exit)) (now (answer .exit)) ⌝ }
+    ensures { λ r. ⌜ Faced (now (tables .entry)) (queryOf «from_kind» from «to_kind» to when moment walks mode)
+        (lent (now (words .entry)) (now (marks .entry)) (now (places .entry)) (now (journey .entry))) (now (answer .entry)) r
+        (lent (now (words .exit)) (now (marks .exit)) (now (places .exit)) (now (journey .exit))) (now (answer .exit)) ⌝ }
 {
     if answer.len() < 5 {
         return 6;

@@ -15,66 +15,67 @@ use Rattle.repository.specs.Accepted.{Accepted}
 use Rattle.repository.specs.NetOf.{netOf}
 use Rattle.repository.specs.Checked.{checkOf}
 use Rattle.check_tables.proofs.Whole.{accepted-is}
+use Rattle.raptor.specs.Lent.{Lent}
 use Rattle.raptor.specs.Solved.{roomFor, sized, Ended, WorkspaceLeft, Solved}
 use Rattle.raptor.specs.Searching.{Ran}
 
-module _ (t : List ℕ) (q : Query) (w y p j : List ℕ) where
+module _ (t : List ℕ) (q : Query) (before : Lent) where
   number : ℕ
-  number = lowest (checkOf t) (sized (netOf t) w y p) (netOf t) q
+  number = lowest (checkOf t) (sized (netOf t) before) (netOf t) q
 
   -- a refusal leaves everything as it was
-  untouched : (k : ℕ) → (k ≡ 0 → ⊥) → k ≡ lowest (checkOf t) (sized (netOf t) w y p) (netOf t) q → Solved t q w y p j (Refused k) w y p j
+  untouched : (k : ℕ) → (k ≡ 0 → ⊥) → k ≡ lowest (checkOf t) (sized (netOf t) before) (netOf t) q → Solved t q before (Refused k) before
   unfolding answer unless journeyLeft written
   untouched zero h e = absurd (h refl)
   untouched (suc k) h e = record {
     answers = answers;
-    journey = ap (λ (a : Answer). written a (legsOf (netOf t) q) j) answers;
+    journey = ap (λ (a : Answer). written a (legsOf (netOf t) q) (before .journey)) answers;
     workspace = record { untouched = λ z. (refl, refl, refl); ended = λ z. absurd (omega arith) };
   }
     where
-      answers : Refused (suc k) ≡ answer (checkOf t) (sized (netOf t) w y p) (netOf t) q (length j)
-      answers = ap (unless Refused (reply (length j) ((searched (netOf t) q) .times .target) (legsOf (netOf t) q))) e
+      answers : Refused (suc k) ≡ answer (checkOf t) (sized (netOf t) before) (netOf t) q (length (before .journey))
+      answers = ap (unless Refused (reply (length (before .journey)) ((searched (netOf t) q) .times .target) (legsOf (netOf t) q))) e
 
   -- 1 to 5
-  pub by-tables : {c : ℕ} → c ≡ checkOf t → (c ≡ 0 → ⊥) → Solved t q w y p j (Refused c) w y p j
+  pub by-tables : {c : ℕ} → c ≡ checkOf t → (c ≡ 0 → ⊥) → Solved t q before (Refused c) before
   unfolding lowest
   by-tables {c} e h = untouched c h (rw (← e) (by c h))
     where
-      by : (k : ℕ) → (k ≡ 0 → ⊥) → k ≡ lowest k (sized (netOf t) w y p) (netOf t) q
+      by : (k : ℕ) → (k ≡ 0 → ⊥) → k ≡ lowest k (sized (netOf t) before) (netOf t) q
       by zero h = absurd (h refl)
       by (suc k) h = refl
 
   module _ {n m : ℕ} {b : Bool} (h : Accepted t) (en : n ≡ netOf t .stops) (em : m ≡ netOf t .routes)
-      (eb : b ≡ roomFor n m (length w) (length y) (length p)) where
+      (eb : b ≡ roomFor n m (length (before .words)) (length (before .marks)) (length (before .places))) where
     sound : checkOf t ≡ 0
     sound = accepted-is t .1 h
 
-    room : sized (netOf t) w y p ≡ b
+    room : sized (netOf t) before ≡ b
     unfolding sized
     room = rw (← en, ← em) (sym eb)
 
     -- 6
-    pub by-room : b ≡ false → Solved t q w y p j (Refused 6) w y p j
+    pub by-room : b ≡ false → Solved t q before (Refused 6) before
     by-room f = untouched 6 (λ z. omega arith) (unfold lowest in rw (sound, room, f))
 
     -- 7, 8, 9
-    pub by-query : {k : ℕ} → b ≡ true → k ≡ refusal (netOf t) q → (k ≡ 0 → ⊥) → Solved t q w y p j (Refused k) w y p j
+    pub by-query : {k : ℕ} → b ≡ true → k ≡ refusal (netOf t) q → (k ≡ 0 → ⊥) → Solved t q before (Refused k) before
     by-query {k} f e g = untouched k g (unfold lowest in rw (sound, room, f) e)
 
     -- 0, 10, 12
-    pub by-search : {k : ℕ} {r : Answer} {w′ y′ p′ j′ : List ℕ} → b ≡ true → k ≡ refusal (netOf t) q → k ≡ 0
-        → Ran (netOf t) q j r w′ y′ p′ j′ → Solved t q w y p j r w′ y′ p′ j′
+    pub by-search : {k : ℕ} {r : Answer} {after : Lent} → b ≡ true → k ≡ refusal (netOf t) q → k ≡ 0
+        → Ran (netOf t) q (before .journey) r after → Solved t q before r after
     unfolding lowest answer unless journeyLeft
-    by-search {k} {r} {w′} {y′} {p′} {j′} f e z x = record {
+    by-search {k} {r} f e z x = record {
       answers = answers;
-      journey = x .journey ∙ ap (λ (a : Answer). written a (legsOf (netOf t) q) j) answers;
+      journey = x .journey ∙ ap (λ (a : Answer). written a (legsOf (netOf t) q) (before .journey)) answers;
       workspace = record { untouched = λ u. absurd (omega (arith, none)); ended = λ u. x .ended };
     }
       where
-        none : lowest (checkOf t) (sized (netOf t) w y p) (netOf t) q ≡ 0
+        none : lowest (checkOf t) (sized (netOf t) before) (netOf t) q ≡ 0
         none = rw (sound, room, f) (sym e ∙ z)
 
-        answers : r ≡ answer (checkOf t) (sized (netOf t) w y p) (netOf t) q (length j)
+        answers : r ≡ answer (checkOf t) (sized (netOf t) before) (netOf t) q (length (before .journey))
         answers =
             x .answers
-            ∙ ap (unless Refused (reply (length j) ((searched (netOf t) q) .times .target) (legsOf (netOf t) q))) (sym none)
+            ∙ ap (unless Refused (reply (length (before .journey)) ((searched (netOf t) q) .times .target) (legsOf (netOf t) q))) (sym none)

@@ -1,6 +1,6 @@
 -- The three demands, said of what `solve` answers and leaves: each theorem takes its contract, `Solved` of specs/Solved.antt, and
--- nothing else. t are the tables, q the query; w, y, p and j are the words, marks, places and journey buffer as they are lent,
--- w′, y′, p′ and j′ as they are left; r is the answer.
+-- nothing else. t are the tables, q the query; `before` are the words, marks, places and journey buffer as they are lent, `after` as they
+-- are left; r is the answer.
 use Prim.Native.Nat.{ℕ, zero, suc, _+_, _≤_, _<_}
 use mathlib.Core.Path.{_≡_, refl, sym, ap, _∙_, subst}
 use mathlib.Core.Bool.{Bool, true, false, cond, false≢true}
@@ -47,6 +47,7 @@ use Rattle.repository.proofs.Sound.{accepted-sound}
 use Rattle.repository.proofs.Narrow.{accepted-narrow}
 use Rattle.check_tables.proofs.Whole.{accepted-is, check-most}
 use Rattle.allocator.specs.Layout.{view}
+use Rattle.raptor.specs.Lent.{Lent}
 use Rattle.raptor.specs.Solved.{sized, holds, Ended, WorkspaceLeft, Solved}
 
 -- what an answer 0 says of the target and of the legs
@@ -116,17 +117,17 @@ reply-length room most g gs h =
     to [] l = omega arith
     to (v ∷ vs) l = cond-elim (λ a. (given a) .length ≤ most) (leb (sizeOf (v ∷ vs)) room) _ _ (λ e. l) (λ e. l)
 
-module _ (t : List ℕ) (q : Query) (w y p j : List ℕ) {r : Answer} {w′ y′ p′ j′ : List ℕ} (h : Solved t q w y p j r w′ y′ p′ j′) where
+module _ (t : List ℕ) (q : Query) (before : Lent) {r : Answer} {after : Lent} (h : Solved t q before r after) where
   -- the number that refuses, 0 where none does
   abbrev number : ℕ
-  number = lowest (checkOf t) (sized (netOf t) w y p) (netOf t) q
+  number = lowest (checkOf t) (sized (netOf t) before) (netOf t) q
 
   -- the target and the legs of the search that document 01 defines
   abbrev goal : Target
   goal = (searched (netOf t) q) .times .target
 
   abbrev told : Answer
-  told = reply (length j) ((searched (netOf t) q) .times .target) (legsOf (netOf t) q)
+  told = reply (length (before .journey)) ((searched (netOf t) q) .times .target) (legsOf (netOf t) q)
 
   answered : r ≡ unless Refused told number
   unfolding answer
@@ -151,33 +152,33 @@ module _ (t : List ℕ) (q : Query) (w y p j : List ℕ) {r : Answer} {w′ y′
   some-refused b = go number refl
     where
       go : (k : ℕ) → number ≡ k → 0 < number
-      go zero e = absurd (false≢true (sym b ∙ ap ran (told-by e) ∙ reply-ran (length j) goal (legsOf (netOf t) q)))
+      go zero e = absurd (false≢true (sym b ∙ ap ran (told-by e) ∙ reply-ran (length (before .journey)) goal (legsOf (netOf t) q)))
       go (suc k) e = omega arith
 
-  kept-journey : j′ ≡ written r (legsOf (netOf t) q) j
+  kept-journey : after .journey ≡ written r (legsOf (netOf t) q) (before .journey)
   unfolding journeyLeft
-  kept-journey = h .journey ∙ ap (λ (a : Answer). written a (legsOf (netOf t) q) j) (sym (h .answers))
+  kept-journey = h .journey ∙ ap (λ (a : Answer). written a (legsOf (netOf t) q) (before .journey)) (sym (h .answers))
 
   -- ==== Demand 1
   -- "bad tables are refused by number before the search starts"
   pub tables-refused : (k : ℕ) → checkOf t ≡ suc k → r ≡ Refused (suc k)
   unfolding lowest
-  tables-refused k e = refused-by k (ap (λ (c : ℕ). lowest c (sized (netOf t) w y p) (netOf t) q) e)
+  tables-refused k e = refused-by k (ap (λ (c : ℕ). lowest c (sized (netOf t) before) (netOf t) q) e)
 
   -- "The workspace is untouched on 1 to 9"
-  pub refused-untouched : {x : ℕ} → r ≡ Refused x → (w′ ≡ w) × (y′ ≡ y) × (p′ ≡ p)
+  pub refused-untouched : {x : ℕ} → r ≡ Refused x → (after .words ≡ before .words) × (after .marks ≡ before .marks) × (after .places ≡ before .places)
   refused-untouched e = h .workspace .untouched (some-refused (ap ran e))
 
   -- ".. as the search ends on 0 and 10 to 12"
-  pub ran-ended : ran r ≡ true → Ended (netOf t) q w′ y′ p′
+  pub ran-ended : ran r ≡ true → Ended (netOf t) q after
   ran-ended b = h .workspace .ended (none-refused b)
 
   -- "a refusal leaves the journey buffer untouched": every number but 0
-  pub refused-journey : (given r) .number ≢ 0 → j′ ≡ j
+  pub refused-journey : (given r) .number ≢ 0 → after .journey ≡ before .journey
   unfolding given written
   refused-journey ne = kept-journey ∙ go r ne
     where
-      go : (a : Answer) → (given a) .number ≢ 0 → written a (legsOf (netOf t) q) j ≡ j
+      go : (a : Answer) → (given a) .number ≢ 0 → written a (legsOf (netOf t) q) (before .journey) ≡ before .journey
       go (Found time s k z) ne = absurd (ne refl)
       go (Refused x) ne = refl
       go NoRouteFound ne = refl
@@ -189,11 +190,11 @@ module _ (t : List ℕ) (q : Query) (w y p j : List ℕ) {r : Answer} {w′ y′
   refused-range {x} e = go number refl
     where
       go : (k : ℕ) → number ≡ k → (0 < x) × (x ≤ 9)
-      go zero f = absurd (false≢true (sym (ap ran e) ∙ ap ran (told-by f) ∙ reply-ran (length j) goal (legsOf (netOf t) q)))
+      go zero f = absurd (false≢true (sym (ap ran e) ∙ ap ran (told-by f) ∙ reply-ran (length (before .journey)) goal (legsOf (netOf t) q)))
       go (suc k) f =
           let same : Refused x ≡ Refused (suc k) = sym e ∙ refused-by k f in
           let is : x ≡ suc k = cc in
-          let most = lowest-most (checkOf t) (sized (netOf t) w y p) (netOf t) q (check-most t) in
+          let most = lowest-most (checkOf t) (sized (netOf t) before) (netOf t) q (check-most t) in
           (omega arith, omega arith)
 
   -- "If an answer is an enum, a definition gives this paper's number and values": they are one answer, so every promise can be read with
@@ -213,10 +214,10 @@ module _ (t : List ℕ) (q : Query) (w y p j : List ℕ) {r : Answer} {w′ y′
 
   -- ==== what a search that has run rests on
   accepted : ran r ≡ true → Accepted t
-  accepted b = accepted-is t .0 (fault-none (checkOf t) (sized (netOf t) w y p) (netOf t) q (none-refused b))
+  accepted b = accepted-is t .0 (fault-none (checkOf t) (sized (netOf t) before) (netOf t) q (none-refused b))
 
   unrefused-query : ran r ≡ true → refusal (netOf t) q ≡ 0
-  unrefused-query b = unrefused (checkOf t) (sized (netOf t) w y p) (netOf t) q (none-refused b)
+  unrefused-query b = unrefused (checkOf t) (sized (netOf t) before) (netOf t) q (none-refused b)
 
   task-asked : ran r ≡ true → Asked (netOf t) (taskOf (netOf t) q)
   task-asked b = asked (netOf t) (accepted-sound (accepted b)) q (unrefused-query b)
@@ -224,7 +225,7 @@ module _ (t : List ℕ) (q : Query) (w y p j : List ℕ) {r : Answer} {w′ y′
   -- "11 a chosen stop but no leg" is given for no input
   pub never-failed : r ≢ FailedToBuildRoute
   never-failed e =
-      never-11 (netOf t) (accepted-sound (accepted (ap ran e))) q (checkOf t) (sized (netOf t) w y p) (length j) (sym (h .answers) ∙ e)
+      never-11 (netOf t) (accepted-sound (accepted (ap ran e))) q (checkOf t) (sized (netOf t) before) (length (before .journey)) (sym (h .answers) ∙ e)
 
   -- no journey takes more than 69,692 bytes: 4,096 legs of 17, and 4 more for each of 15 rides
   pub length-most : (given r) .length ≤ 69_692
@@ -233,34 +234,34 @@ module _ (t : List ℕ) (q : Query) (w y p j : List ℕ) {r : Answer} {w′ y′
     where
       few : number ≡ 0 → 0 < goal .time .0 → sizeOf (legsOf (netOf t) q) ≤ 69_692
       few e h =
-          let b : ran r ≡ true = ap ran (told-by e) ∙ reply-ran (length j) goal (legsOf (netOf t) q) in
+          let b : ran r ≡ true = ap ran (told-by e) ∙ reply-ran (length (before .journey)) goal (legsOf (netOf t) q) in
           let ok = accepted-sound (accepted b) in
           let stops = accepted-narrow (accepted b) .stops in
           omega (arith, bytes-at-most (netOf t) ok (taskOf (netOf t) q) (task-asked b) listed listed-fair h)
 
       go : (k : ℕ) → number ≡ k → (given r) .length ≤ 69_692
-      go zero e = rw (told-by e) (reply-length (length j) 69_692 goal (legsOf (netOf t) q) (few e))
+      go zero e = rw (told-by e) (reply-length (length (before .journey)) 69_692 goal (legsOf (netOf t) q) (few e))
       go (suc k) e = rw (refused-by k e) (omega arith)
 
   -- ==== Demand 2: "Journeys are written to bytes and read back unchanged"
   module _ {time : Time} {s k z : ℕ} (e : r ≡ Found time s k z) where
-    is-found : FoundBy (length j) goal (legsOf (netOf t) q) time s k z
-    is-found = subst (Tells (length j) goal (legsOf (netOf t) q)) (sym (told-by (none-refused (ap ran e))) ∙ e) (reply-tells (length j) goal (legsOf (netOf t) q))
+    is-found : FoundBy (length (before .journey)) goal (legsOf (netOf t) q) time s k z
+    is-found = subst (Tells (length (before .journey)) goal (legsOf (netOf t) q)) (sym (told-by (none-refused (ap ran e))) ∙ e) (reply-tells (length (before .journey)) goal (legsOf (netOf t) q))
 
-    left : j′ ≡ write (legsOf (netOf t) q) ++ drop (length (write (legsOf (netOf t) q))) j
+    left : after .journey ≡ write (legsOf (netOf t) q) ++ drop (length (write (legsOf (netOf t) q))) (before .journey)
     unfolding written
-    left = kept-journey ∙ ap (λ (a : Answer). written a (legsOf (netOf t) q) j) e
+    left = kept-journey ∙ ap (λ (a : Answer). written a (legsOf (netOf t) q) (before .journey)) e
 
     size : length (write (legsOf (netOf t) q)) ≡ z
     size = size-is (legsOf (netOf t) q) ∙ sym (is-found .length-is)
 
     -- the first bytes, as many as the length says, are the journey's ..
-    pub journey-bytes : take z j′ ≡ write (legsOf (netOf t) q)
+    pub journey-bytes : take z (after .journey) ≡ write (legsOf (netOf t) q)
     journey-bytes = ap (take z) left ∙ take-at (write (legsOf (netOf t) q)) _ z size
 
     -- "On 0 bytes past the journey stay unchanged."
-    pub past-unchanged : drop z j′ ≡ drop z j
-    past-unchanged = ap (drop z) left ∙ drop-at (write (legsOf (netOf t) q)) _ z size ∙ ap (λ (i : ℕ). drop i j) size
+    pub past-unchanged : drop z (after .journey) ≡ drop z (before .journey)
+    past-unchanged = ap (drop z) left ∙ drop-at (write (legsOf (netOf t) q)) _ z size ∙ ap (λ (i : ℕ). drop i (before .journey)) size
 
     legs-fit : Each Fits (legsOf (netOf t) q)
     unfolding legsOf searched
@@ -270,7 +271,7 @@ module _ (t : List ℕ) (q : Query) (w y p j : List ℕ) {r : Answer} {w′ y′
         (is-found .chosen)
 
     -- .. and they are read as its legs
-    pub reads-back : read (take z j′) ≡ readAs (legsOf (netOf t) q)
+    pub reads-back : read (take z (after .journey)) ≡ readAs (legsOf (netOf t) q)
     reads-back = ap read journey-bytes ∙ read-write (legsOf (netOf t) q) legs-fit
 
     -- the chosen stop is a stop of the place that is searched for, and the round is one of the 15
@@ -298,11 +299,11 @@ module _ (t : List ℕ) (q : Query) (w y p j : List ℕ) {r : Answer} {w′ y′
     unfolding searched
     same = same-times (netOf t) (taskOf (netOf t) q) listed o listed-fair fair
 
-    stands : view (netOf t .stops) (netOf t .routes) w′ y′ ≡ workOf (searched (netOf t) q)
+    stands : view (netOf t .stops) (netOf t .routes) (after .words) (after .marks) ≡ workOf (searched (netOf t) q)
     unfolding holds workspaceOf
     stands = ap (λ (x : Workspace). x .work) (ran-ended b .ends)
 
-    pub any-order : SameTimes (view (netOf t .stops) (netOf t .routes) w′ y′) ((search (netOf t) (taskOf (netOf t) q) o) .times)
+    pub any-order : SameTimes (view (netOf t .stops) (netOf t .routes) (after .words) (after .marks)) ((search (netOf t) (taskOf (netOf t) q) o) .times)
     any-order = record {
       prev = ap (λ (v : Work). v .prev) stands ∙ ap (λ (m : Times). m .prev) same;
       curr = ap (λ (v : Work). v .labels .curr) stands ∙ ap (λ (m : Times). m .labels .curr) same;
@@ -315,9 +316,9 @@ module _ (t : List ℕ) (q : Query) (w y p j : List ℕ) {r : Answer} {w′ y′
     }
 
     -- the answer's time, stop and round are those of that order's target
-    pub any-order-chosen : r ≡ reply (length j) ((search (netOf t) (taskOf (netOf t) q) o) .times .target) (legsOf (netOf t) q)
+    pub any-order-chosen : r ≡ reply (length (before .journey)) ((search (netOf t) (taskOf (netOf t) q) o) .times .target) (legsOf (netOf t) q)
     any-order-chosen =
-        told-by (none-refused b) ∙ ap (λ (m : Times). reply (length j) (m .target) (legsOf (netOf t) q)) same
+        told-by (none-refused b) ∙ ap (λ (m : Times). reply (length (before .journey)) (m .target) (legsOf (netOf t) q)) same
 
   -- ==== Demand 3, the journey: "starts at an origin no sooner than asked, has one ride more than the round's number, rides listed trips,
   -- uses only allowed listed footpaths, leaves no stop before reaching it, and ends at the chosen stop at the reported time". `AskedFor` has
@@ -369,11 +370,11 @@ module _ (t : List ℕ) (q : Query) (w y p j : List ℕ) {r : Answer} {w′ y′
 
   -- an answer 12: the journey is one that the query asks for, from the stop that was chosen; only the buffer is too short for it
   module _ {z : ℕ} (e : r ≡ TooLong z) where
-    is-long : LongBy (length j) goal (legsOf (netOf t) q) z
-    is-long = subst (Tells (length j) goal (legsOf (netOf t) q)) (sym (told-by (none-refused (ap ran e))) ∙ e) (reply-tells (length j) goal (legsOf (netOf t) q))
+    is-long : LongBy (length (before .journey)) goal (legsOf (netOf t) q) z
+    is-long = subst (Tells (length (before .journey)) goal (legsOf (netOf t) q)) (sym (told-by (none-refused (ap ran e))) ∙ e) (reply-tells (length (before .journey)) goal (legsOf (netOf t) q))
 
     -- "12 only the length needed"
-    pub too-long-length : (z ≡ sizeOf (legsOf (netOf t) q)) × (length j < z)
+    pub too-long-length : (z ≡ sizeOf (legsOf (netOf t) q)) × (length (before .journey) < z)
     too-long-length = (is-long .length-is, is-long .over)
 
     pub too-long-journey : (o : Order) → Fair o

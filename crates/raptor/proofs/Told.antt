@@ -35,6 +35,7 @@ use Rattle.path.proofs.Reached.{reached-traced}
 use Rattle.raptor_query.specs.Directed.{directionOf}
 use Rattle.raptor_reply.specs.Chosen.{Chosen, legsBack}
 use Rattle.raptor_rounds.specs.Fixed.{Fixed}
+use Rattle.raptor.specs.Lent.{lent}
 use Rattle.raptor.specs.Solved.{holds, Ended}
 use Rattle.raptor.specs.Searching.{Tabled, Ran}
 use Rattle.raptor.proofs.Searched.{tabled-fixed}
@@ -93,27 +94,27 @@ module _ {t : List ℕ} {n m : ℕ} (v : Tabled t n m) (q : Query) (z : refusal 
   unfolding legsBack legsOf journey trace
   legs-are = rw (parents, found, ed, ← (task-directed (netOf t) q), x .stops)
 
-  module _ {p : List ℕ} (ep : p ≡ placed (netOf t) (q .from) ++ placed (netOf t) (q .to)) (fits : Sized n m w y) (tidy : Tidy n m w y) where
+  module _ {p : List ℕ} (j′ : List ℕ) (ep : p ≡ placed (netOf t) (q .from) ++ placed (netOf t) (q .to)) (fits : Sized n m w y) (tidy : Tidy n m w y) where
     long : length (placed (netOf t) (q .from)) ≡ n
     long = placed-long (x .accepted) (q .from) (from-there v q z) ∙ sym (x .stops)
 
     work : view n m w y ≡ workOf (searched (netOf t) q)
     work = ap workOf e
 
-    held : holds n m w y p ≡ workspaceOf (netOf t) q (searched (netOf t) q)
+    held : holds n m (lent w y p j′) ≡ workspaceOf (netOf t) q (searched (netOf t) q)
     unfolding holds workspaceOf
     held =
         let a : take n p ≡ placed (netOf t) (q .from) = ap (take n) ep ∙ take-at (placed (netOf t) (q .from)) _ n long in
         let b : drop n p ≡ placed (netOf t) (q .to) = ap (drop n) ep ∙ drop-at (placed (netOf t) (q .from)) _ n long in
         λ i. record { work = work i; origins = a i; goals = b i }
 
-    is-ended : Ended (netOf t) q w y p
+    is-ended : Ended (netOf t) q (lent w y p j′)
     is-ended = record {
-      ends = as-net (λ s r. holds s r w y p ≡ workspaceOf (netOf t) q (searched (netOf t) q)) held;
+      ends = as-net (λ s r. holds s r (lent w y p j′) ≡ workspaceOf (netOf t) q (searched (netOf t) q)) held;
       fits = as-net (λ s r. Sized s r w y) fits;
       tidy = as-net (λ s r. Tidy s r w y) tidy;
     }
 
-    pub ran : {r : Answer} {j j′ : List ℕ} → r ≡ reply (length j) g (legsBack d n (parentsOf n m w) g)
-        → j′ ≡ written r (legsBack d n (parentsOf n m w) g) j → Ran (netOf t) q j r w y p j′
+    pub ran : {r : Answer} {j : List ℕ} → r ≡ reply (length j) g (legsBack d n (parentsOf n m w) g)
+        → j′ ≡ written r (legsBack d n (parentsOf n m w) g) j → Ran (netOf t) q j r (lent w y p j′)
     ran a b = record { answers = rw (← found, ← legs-are) a; journey = rw (← legs-are) b; ended = is-ended }

@@ -15,43 +15,48 @@ use Rattle.repository.specs.NetOf.{netOf}
 use Rattle.repository.specs.Checked.{checkOf}
 use Rattle.allocator.specs.Layout.{view}
 use Rattle.allocator.proofs.Same.{same-words}
+use Rattle.raptor.specs.Lent.{Lent}
 use Rattle.raptor.specs.Solved.{sized, holds, Ended, WorkspaceLeft, Solved}
 use Rattle.raptor.specs.Searching.{Ran}
 
-module _ (n : Net) (q : Query) (w y p v z u : List ℕ) where
+-- slices of the same contents are the same
+same-lent : {l m : Lent} → (l .words ≡ m .words) × (l .marks ≡ m .marks) × (l .places ≡ m .places) → l .journey ≡ m .journey → l ≡ m
+same-lent e f = λ i. record { words = e .0 i; marks = e .1 i; places = e .2 i; journey = f i }
+
+module _ (n : Net) (q : Query) {l m : Lent} where
   -- slices in which the search ended alike are the same slices
-  pub ended-same : Ended n q w y p → Ended n q v z u → (w ≡ v) × (y ≡ z) × (p ≡ u)
+  pub ended-same : Ended n q l → Ended n q m → (l .words ≡ m .words) × (l .marks ≡ m .marks) × (l .places ≡ m .places)
   unfolding holds
   ended-same a b =
-      let e : holds (n .stops) (n .routes) w y p ≡ holds (n .stops) (n .routes) v z u = a .ends ∙ sym (b .ends) in
-      let words = same-words (n .stops) (n .routes) w y v z (a .fits) (b .fits) (a .tidy) (b .tidy) (ap (λ (x : Workspace). x .work) e) in (
+      let e : holds (n .stops) (n .routes) l ≡ holds (n .stops) (n .routes) m = a .ends ∙ sym (b .ends) in
+      let words = same-words (n .stops) (n .routes) (l .words) (l .marks) (m .words) (m .marks) (a .fits) (b .fits) (a .tidy) (b .tidy)
+      (ap (λ (x : Workspace). x .work) e) in (
         words .0,
         words .1,
-        sym (take-append-drop (n .stops) p)
-            ∙ ap (λ (x : List ℕ). x ++ drop (n .stops) p) (ap (λ (x : Workspace). x .origins) e)
-            ∙ ap (λ (x : List ℕ). take (n .stops) u ++ x) (ap (λ (x : Workspace). x .goals) e)
-            ∙ take-append-drop (n .stops) u,
+        sym (take-append-drop (n .stops) (l .places))
+            ∙ ap (λ (x : List ℕ). x ++ drop (n .stops) (l .places)) (ap (λ (x : Workspace). x .origins) e)
+            ∙ ap (λ (x : List ℕ). take (n .stops) (m .places) ++ x) (ap (λ (x : Workspace). x .goals) e)
+            ∙ take-append-drop (n .stops) (m .places),
       )
 
-  left-same : {w₀ y₀ p₀ : List ℕ} (k : ℕ) → WorkspaceLeft n q k w₀ y₀ p₀ w y p → WorkspaceLeft n q k w₀ y₀ p₀ v z u
-      → (w ≡ v) × (y ≡ z) × (p ≡ u)
+  left-same : {before : Lent} (k : ℕ) → WorkspaceLeft n q k before l → WorkspaceLeft n q k before m
+      → (l .words ≡ m .words) × (l .marks ≡ m .marks) × (l .places ≡ m .places)
   left-same zero a b = ended-same (a .ended refl) (b .ended refl)
   left-same (suc k) a b =
       let x = a .untouched (omega arith) in
       let x′ = b .untouched (omega arith) in
       (x .0 ∙ sym (x′ .0), x .1 ∙ sym (x′ .1), x .2 ∙ sym (x′ .2))
 
-pub solved-unique : (t : List ℕ) (q : Query) (w y p j : List ℕ) {r r′ : Answer} {w₁ y₁ p₁ j₁ w₂ y₂ p₂ j₂ : List ℕ}
-    → Solved t q w y p j r w₁ y₁ p₁ j₁ → Solved t q w y p j r′ w₂ y₂ p₂ j₂
-    → (r ≡ r′) × (w₁ ≡ w₂) × (y₁ ≡ y₂) × (p₁ ≡ p₂) × (j₁ ≡ j₂)
-solved-unique t q w y p j {w₁ = w₁} {y₁ = y₁} {p₁ = p₁} {w₂ = w₂} {y₂ = y₂} {p₂ = p₂} a b =
-    let k = lowest (checkOf t) (sized (netOf t) w y p) (netOf t) q in
-    let x = left-same (netOf t) q w₁ y₁ p₁ w₂ y₂ p₂ k (a .workspace) (b .workspace) in
-    (a .answers ∙ sym (b .answers), x .0, x .1, x .2, a .journey ∙ sym (b .journey))
+pub solved-unique : (t : List ℕ) (q : Query) (before : Lent) {r r′ : Answer} {after after′ : Lent} → Solved t q before r after
+    → Solved t q before r′ after′ → (r ≡ r′) × (after ≡ after′)
+solved-unique t q before a b =
+    let k = lowest (checkOf t) (sized (netOf t) before) (netOf t) q in
+    (a .answers ∙ sym (b .answers), same-lent (left-same (netOf t) q k (a .workspace) (b .workspace)) (a .journey ∙ sym (b .journey)))
 
-pub ran-unique : (n : Net) (q : Query) (j : List ℕ) {r r′ : Answer} {w₁ y₁ p₁ j₁ w₂ y₂ p₂ j₂ : List ℕ}
-    → Ran n q j r w₁ y₁ p₁ j₁ → Ran n q j r′ w₂ y₂ p₂ j₂ → (r ≡ r′) × (w₁ ≡ w₂) × (y₁ ≡ y₂) × (p₁ ≡ p₂) × (j₁ ≡ j₂)
-ran-unique n q j {r} {r′} {w₁} {y₁} {p₁} {j₁} {w₂} {y₂} {p₂} {j₂} a b =
-    let e : r ≡ r′ = a .answers ∙ sym (b .answers) in
-    let s = ended-same n q w₁ y₁ p₁ w₂ y₂ p₂ (a .ended) (b .ended) in
-    (e, s .0, s .1, s .2, a .journey ∙ ap (λ (x : Answer). written x (legsOf n q) j) e ∙ sym (b .journey))
+pub ran-unique : (n : Net) (q : Query) (j : List ℕ) {r r′ : Answer} {after after′ : Lent} → Ran n q j r after → Ran n q j r′ after′
+    → (r ≡ r′) × (after ≡ after′)
+ran-unique n q j {r} {r′} a b =
+    let e : r ≡ r′ = a .answers ∙ sym (b .answers) in (
+      e,
+      same-lent (ended-same n q (a .ended) (b .ended)) (a .journey ∙ ap (λ (x : Answer). written x (legsOf n q) j) e ∙ sym (b .journey)),
+    )

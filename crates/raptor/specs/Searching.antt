@@ -17,6 +17,7 @@ use Rattle.allocator.specs.Layout.{view}
 use Rattle.raptor_query.specs.Areas.{areaPart}
 use Rattle.raptor_rounds.specs.Fixed.{Fixed}
 use Rattle.raptor_rounds.specs.Stops.{Below}
+use Rattle.raptor.specs.Lent.{Lent}
 use Rattle.raptor.specs.Solved.{Ended}
 
 -- accepted tables with s stops and r routes; the many facts of `Fixed` stand behind a function, so that only who asks for them has them
@@ -35,8 +36,8 @@ pub record Written (n : Net) (q : Query) (p : List ℕ) (origins goals : ℕ) : 
   pub from-size : origins ≡ length (areaPart n (q .from))
   pub to-size : goals ≡ length (areaPart n (q .to))
 
--- what comes of a query that nothing refuses
-pub record Ran (n : Net) (q : Query) (j : List ℕ) (r : Answer) (w′ y′ p′ j′ : List ℕ) : Type 0 where
+-- what comes of a query that nothing refuses, with the journey buffer j as it is lent
+pub record Ran (n : Net) (q : Query) (j : List ℕ) (r : Answer) (after : Lent) : Type 0 where
   pub answers : r ≡ reply (length j) ((searched n q) .times .target) (legsOf n q)
-  pub journey : j′ ≡ written r (legsOf n q) j
-  pub ended : Ended n q w′ y′ p′
+  pub journey : after .journey ≡ written r (legsOf n q) j
+  pub ended : Ended n q after

@@ -15,6 +15,7 @@ use Rattle.repository.specs.NetOf.{netOf}
 use Rattle.repository.specs.Checked.{checkOf}
 use Rattle.allocator.specs.Layout.{wordsRoom, marksRoom, Sized, view}
 use Rattle.allocator.specs.Tidy.{Tidy}
+use Rattle.raptor.specs.Lent.{Lent}
 
 -- origins and goals: as many places for each as there are stops
 abbrev pub placesRoom : ℕ → ℕ
@@ -24,26 +25,26 @@ placesRoom s = s + s
 unfoldable pub roomFor : ℕ → ℕ → ℕ → ℕ → ℕ → Bool
 roomFor s r words marks places = eqb words (wordsRoom s r) && eqb marks (marksRoom s r) && eqb places (placesRoom s)
 
-unfoldable pub sized : Net → List ℕ → List ℕ → List ℕ → Bool
-sized n w y p = roomFor (n .stops) (n .routes) (length w) (length y) (length p)
+unfoldable pub sized : Net → Lent → Bool
+sized n l = roomFor (n .stops) (n .routes) (length (l .words)) (length (l .marks)) (length (l .places))
 
 -- the workspace that the three slices hold
-unfoldable pub holds : ℕ → ℕ → List ℕ → List ℕ → List ℕ → Workspace
-holds s r w y p = record { work = view s r w y; origins = take s p; goals = drop s p }
+unfoldable pub holds : ℕ → ℕ → Lent → Workspace
+holds s r l = record { work = view s r (l .words) (l .marks); origins = take s (l .places); goals = drop s (l .places) }
 
 -- "as the search ends", and nothing beside it
-pub record Ended (n : Net) (q : Query) (w y p : List ℕ) : Type 0 where
-  pub ends : holds (n .stops) (n .routes) w y p ≡ workspaceOf n q (searched n q)
-  pub fits : Sized (n .stops) (n .routes) w y
-  pub tidy : Tidy (n .stops) (n .routes) w y
+pub record Ended (n : Net) (q : Query) (after : Lent) : Type 0 where
+  pub ends : holds (n .stops) (n .routes) after ≡ workspaceOf n q (searched n q)
+  pub fits : Sized (n .stops) (n .routes) (after .words) (after .marks)
+  pub tidy : Tidy (n .stops) (n .routes) (after .words) (after .marks)
 
 -- "The workspace is untouched on 1 to 9, as the search ends on 0 and 10 to 12"
-pub record WorkspaceLeft (n : Net) (q : Query) (number : ℕ) (w y p w′ y′ p′ : List ℕ) : Type 0 where
-  pub untouched : 0 < number → (w′ ≡ w) × (y′ ≡ y) × (p′ ≡ p)
-  pub ended : number ≡ 0 → Ended n q w′ y′ p′
+pub record WorkspaceLeft (n : Net) (q : Query) (number : ℕ) (before after : Lent) : Type 0 where
+  pub untouched : 0 < number → (after .words ≡ before .words) × (after .marks ≡ before .marks) × (after .places ≡ before .places)
+  pub ended : number ≡ 0 → Ended n q after
 
--- tables t, query q, and words, marks, places and journey buffer as they are lent; the answer r, and the four as they are left
-pub record Solved (t : List ℕ) (q : Query) (w y p j : List ℕ) (r : Answer) (w′ y′ p′ j′ : List ℕ) : Type 0 where
-  pub answers : r ≡ answer (checkOf t) (sized (netOf t) w y p) (netOf t) q (length j)
-  pub journey : j′ ≡ journeyLeft (checkOf t) (sized (netOf t) w y p) (netOf t) q j
-  pub workspace : WorkspaceLeft (netOf t) q (lowest (checkOf t) (sized (netOf t) w y p) (netOf t) q) w y p w′ y′ p′
+-- tables t, query q, and the four slices as they are lent; the answer r, and the four as they are left
+pub record Solved (t : List ℕ) (q : Query) (before : Lent) (r : Answer) (after : Lent) : Type 0 where
+  pub answers : r ≡ answer (checkOf t) (sized (netOf t) before) (netOf t) q (length (before .journey))
+  pub journey : after .journey ≡ journeyLeft (checkOf t) (sized (netOf t) before) (netOf t) q (before .journey)
+  pub workspace : WorkspaceLeft (netOf t) q (lowest (checkOf t) (sized (netOf t) before) (netOf t) q) before after

@@ -6,6 +6,7 @@ ghost use lib.ListN.{length};
 ghost use Rattle.repository.specs.Accepted.{Accepted};
 ghost use Rattle.repository.specs.NetOf.{netOf};
 ghost use Rattle.repository.specs.Checked.{checkOf};
+ghost use Rattle.raptor.specs.Lent.{lent};
 ghost use Rattle.raptor.specs.Solved.{roomFor, Solved};
 ghost use Rattle.raptor.specs.Rooms.{roomOf};
 use model::Answer;
@@ -67,7 +68,9 @@ pub fn solve_checked(
     q: Query,
 ) -> Answer
     requires { ⌜ Accepted (now tables) ⌝ }
-    ensures { λ r. ⌜ Solved (now (tables .entry)) q (now (words .entry)) (now (marks .entry)) (now (places .entry)) (now (journey .entry)) r (now (words .exit)) (now (marks .exit)) (now (places .exit)) (now (journey .exit)) ⌝ }
+    ensures { λ r. ⌜ Solved (now (tables .entry)) q
+        (lent (now (words .entry)) (now (marks .entry)) (now (places .entry)) (now (journey .entry))) r
+        (lent (now (words .exit)) (now (marks .exit)) (now (places .exit)) (now (journey .exit))) ⌝ }
 {
     let n = repository::places::stop_count(tables);
     let m = repository::routes::route_count(tables);
@@ -91,7 +94,9 @@ pub fn solve(
     journey: &mut [u8],
     q: Query,
 ) -> Answer
-    ensures { λ r. ⌜ Solved (now (tables .entry)) q (now (words .entry)) (now (marks .entry)) (now (places .entry)) (now (journey .entry)) r (now (words .exit)) (now (marks .exit)) (now (places .exit)) (now (journey .exit)) ⌝ }
+    ensures { λ r. ⌜ Solved (now (tables .entry)) q
+        (lent (now (words .entry)) (now (marks .entry)) (now (places .entry)) (now (journey .entry))) r
+        (lent (now (words .exit)) (now (marks .exit)) (now (places .exit)) (now (journey .exit))) ⌝ }
 {
     let number = check(tables);
     if number == 0 {

@@ -15,6 +15,7 @@ ghost use Rattle.allocator.specs.Layout.{Sized, view};
 ghost use Rattle.allocator.specs.Tidy.{Tidy};
 ghost use Rattle.raptor_rounds.specs.Stops.{Below};
 ghost use Rattle.model.specs.State.{task};
+ghost use Rattle.raptor.specs.Lent.{lent};
 ghost use Rattle.raptor.specs.Searching.{Tabled, Place, Written, Ran};
 use model::Answer;
 use model::Direction;
@@ -157,7 +158,8 @@ pub fn run(
     requires { ⌜ Sized n m (now words) (now marks) ⌝ }
     requires { ⌜ length (now places) ≡ n + n ⌝ }
     requires { ⌜ refusal (netOf (now tables)) q ≡ 0 ⌝ }
-    ensures { λ r. ⌜ Ran (netOf (now (tables .entry))) q (now (journey .entry)) r (now (words .exit)) (now (marks .exit)) (now (places .exit)) (now (journey .exit)) ⌝ }
+    ensures { λ r. ⌜ Ran (netOf (now (tables .entry))) q (now (journey .entry)) r
+        (lent (now (words .exit)) (now (marks .exit)) (now (places .exit)) (now (journey .exit))) ⌝ }
 {
     let time = q.time;
     let d = raptor_query::direction_of(time);

@@ -39,6 +39,7 @@ use Rattle.repository.specs.Sections.{size, sec}
 use Rattle.repository.specs.NetOf.{count, listOf, transferRow, walkRow, stationOf, netOf}
 use Rattle.check_tables.proofs.Examples.{N, N9}
 use Rattle.allocator.specs.Layout.{wordsRoom, marksRoom}
+use Rattle.raptor.specs.Lent.{lent}
 use Rattle.raptor.specs.Solved.{placesRoom, roomFor, sized}
 
 -- the accepted words of N are the network of document 01's worked answers
@@ -122,11 +123,11 @@ unfolding computed
 N9-places = refl
 
 -- a workspace of the right lengths is there for every network
-pub roomy : (n : Net)
-    → sized n (replicate (wordsRoom (n .stops) (n .routes)) 0) (replicate (marksRoom (n .stops) (n .routes)) 0) (replicate (placesRoom (n .stops)) 0)
+pub roomy : (n : Net) (j : List ℕ)
+    → sized n (lent (replicate (wordsRoom (n .stops) (n .routes)) 0) (replicate (marksRoom (n .stops) (n .routes)) 0) (replicate (placesRoom (n .stops)) 0) j)
     ≡ true
 unfolding sized roomFor
-roomy n =
+roomy n j =
     rw (
       eq-eqb _ _ (length-replicate {A = ℕ} (wordsRoom (n .stops) (n .routes)) 0),
       eq-eqb _ _ (length-replicate {A = ℕ} (marksRoom (n .stops) (n .routes)) 0),

@@ -26,6 +26,7 @@ use Rattle.repository.proofs.Narrow.{accepted-narrow}
 use Rattle.check_tables.proofs.Examples.{N, N-accepted}
 use Rattle.check_tables.proofs.Whole.{accepted-is}
 use Rattle.allocator.specs.Layout.{view}
+use Rattle.raptor.specs.Lent.{Lent}
 use Rattle.raptor.specs.Solved.{sized, Solved}
 use Rattle.raptor.proofs.Promises.{journey-bytes, reads-back, departure-journey, any-order, any-order-journey, journey-moments, too-long-journey}
 use Rattle.witnesses.proofs.Turned.{turned, turned-fair}
@@ -39,50 +40,50 @@ pub N-words-narrow : Narrow (netOf N)
 N-words-narrow = accepted-narrow N-accepted
 
 -- a workspace of the lengths that the words ask for (`roomy` of Computed.antt)
-pub answered : (t : List ℕ) → Accepted t → (q : Query) {w y p j : List ℕ} {r : Answer} {w′ y′ p′ j′ : List ℕ} → Solved t q w y p j r w′ y′ p′ j′
-    → sized (netOf t) w y p ≡ true → r ≡ answer 0 true (netOf t) q (length j)
-answered t ok q {w} {y} {p} {j} h roomy =
+pub answered : (t : List ℕ) → Accepted t → (q : Query) {before : Lent} {r : Answer} {after : Lent} → Solved t q before r after
+    → sized (netOf t) before ≡ true → r ≡ answer 0 true (netOf t) q (length (before .journey))
+answered t ok q {before} h roomy =
     h .answers
-    ∙ ap (λ (c : ℕ). answer c (sized (netOf t) w y p) (netOf t) q (length j)) (accepted-is t .1 ok)
-    ∙ ap (λ (b : Bool). answer 0 b (netOf t) q (length j)) roomy
+    ∙ ap (λ (c : ℕ). answer c (sized (netOf t) before) (netOf t) q (length (before .journey))) (accepted-is t .1 ok)
+    ∙ ap (λ (b : Bool). answer 0 b (netOf t) q (length (before .journey))) roomy
 
 -- and a buffer of 59 bytes or more
-module _ {w y p j : List ℕ} {r : Answer} {w′ y′ p′ j′ : List ℕ} (h : Solved N from-0-at-50 w y p j r w′ y′ p′ j′)
-    (roomy : sized (netOf N) w y p ≡ true) (enough : 59 ≤ length j) where
+module _ {before : Lent} {r : Answer} {after : Lent} (h : Solved N from-0-at-50 before r after)
+    (roomy : sized (netOf N) before ≡ true) (enough : 59 ≤ length (before .journey)) where
   -- "450, round 1" at stop 4, and "59 bytes"
   pub N1-answer : r ≡ Found (record { 0 = 450 }) 4 1 59
-  N1-answer = answered N N-accepted from-0-at-50 h roomy ∙ N1-answered (length j) enough
+  N1-answer = answered N N-accepted from-0-at-50 h roomy ∙ N1-answered (length (before .journey)) enough
 
   -- the first 59 bytes of the buffer are the three legs, written
-  pub N1-written : take 59 j′ ≡ write N1-legs
-  N1-written = journey-bytes N from-0-at-50 w y p j h N1-answer ∙ ap write N1-searched
+  pub N1-written : take 59 (after .journey) ≡ write N1-legs
+  N1-written = journey-bytes N from-0-at-50 before h N1-answer ∙ ap write N1-searched
 
-  pub N1-read : read (take 59 j′) ≡ legs N1-legs
-  N1-read = reads-back N from-0-at-50 w y p j h N1-answer ∙ ap legs N1-searched
+  pub N1-read : read (take 59 (after .journey)) ≡ legs N1-legs
+  N1-read = reads-back N from-0-at-50 before h N1-answer ∙ ap legs N1-searched
 
   -- `departure-journey`, applied: they start at stop 0 not before 50 and come to stop 4 at 450 with two rides
   pub N1-departs : Departing (netOf N) true (0 ∷ []) 50 4 450 2 N1-legs
   unfolding mayWalk
   N1-departs =
       subst₂ (λ (ss : List ℕ) (gs : List Leg). Departing (netOf N) true ss 50 4 450 2 gs) N-places N1-searched
-      (departure-journey N from-0-at-50 w y p j h N1-answer refl)
+      (departure-journey N from-0-at-50 before h N1-answer refl)
 
   -- `any-order`, `any-order-journey` and `journey-moments`, applied to the order in which every half-round's updates come last first
-  pub N1-same-times : SameTimes (view (netOf N .stops) (netOf N .routes) w′ y′) ((search (netOf N) (taskOf (netOf N) from-0-at-50) turned) .times)
-  N1-same-times = any-order N from-0-at-50 w y p j h (ap ran N1-answer) turned turned-fair
+  pub N1-same-times : SameTimes (view (netOf N .stops) (netOf N .routes) (after .words) (after .marks)) ((search (netOf N) (taskOf (netOf N) from-0-at-50) turned) .times)
+  N1-same-times = any-order N from-0-at-50 before h (ap ran N1-answer) turned turned-fair
 
   pub N1-turned : AskedFor (netOf N) from-0-at-50 4 450 2 (legsBy (netOf N) from-0-at-50 turned)
-  N1-turned = any-order-journey N from-0-at-50 w y p j h N1-answer turned turned-fair
+  N1-turned = any-order-journey N from-0-at-50 before h N1-answer turned turned-fair
 
   pub N1-moments : Each Dated (legsBy (netOf N) from-0-at-50 turned)
-  N1-moments = journey-moments N from-0-at-50 w y p j h N1-answer turned turned-fair
+  N1-moments = journey-moments N from-0-at-50 before h N1-answer turned turned-fair
 
 -- N10, "N1 with a buffer of 58 bytes": 12, and `too-long-journey`, applied
-module _ {w y p j : List ℕ} {r : Answer} {w′ y′ p′ j′ : List ℕ} (h : Solved N from-0-at-50 w y p j r w′ y′ p′ j′)
-    (roomy : sized (netOf N) w y p ≡ true) (short : length j ≡ 58) where
+module _ {before : Lent} {r : Answer} {after : Lent} (h : Solved N from-0-at-50 before r after)
+    (roomy : sized (netOf N) before ≡ true) (short : length (before .journey) ≡ 58) where
   pub N10-answer : r ≡ TooLong 59
   N10-answer = answered N N-accepted from-0-at-50 h roomy ∙ ap (answer 0 true (netOf N) from-0-at-50) short ∙ N10-answered
 
   pub N10-journey : let g = (searched (netOf N) from-0-at-50) .times .target in
       AskedFor (netOf N) from-0-at-50 (g .stop) (g .time .0) (suc (g .round)) (legsBy (netOf N) from-0-at-50 turned)
-  N10-journey = too-long-journey N from-0-at-50 w y p j h N10-answer turned turned-fair
+  N10-journey = too-long-journey N from-0-at-50 before h N10-answer turned turned-fair

@@ -17,6 +17,7 @@ use Rattle.model.specs.Journey.{Arriving, BothWays}
 use Rattle.repository.specs.Sections.{size, sec}
 use Rattle.repository.specs.NetOf.{count, listOf, transferRow, walkRow, netOf}
 use Rattle.check_tables.proofs.Examples.{N9, N9-accepted}
+use Rattle.raptor.specs.Lent.{Lent}
 use Rattle.raptor.specs.Solved.{sized, Solved}
 use Rattle.raptor.proofs.Promises.{arrival-journey}
 use Rattle.witnesses.proofs.N1.{answered}
@@ -47,15 +48,15 @@ N9-both Transfer (suc (suc (suc zero))) f i a (List·Memᴰ·tail m) = absurd (L
 N9-both Transfer (suc (suc (suc (suc zero)))) f i a m = absurd (List·Memᴰ·not-nil m)
 N9-both Transfer (suc (suc (suc (suc (suc s))))) f i a m = let l : suc (suc (suc (suc (suc s)))) < 5 = i in absurd (omega arith)
 
-module _ {w y p j : List ℕ} {r : Answer} {w′ y′ p′ j′ : List ℕ} (h : Solved N9 to-4-by-450 w y p j r w′ y′ p′ j′)
-    (roomy : sized (netOf N9) w y p ≡ true) (enough : 59 ≤ length j) where
+module _ {before : Lent} {r : Answer} {after : Lent} (h : Solved N9 to-4-by-450 before r after)
+    (roomy : sized (netOf N9) before ≡ true) (enough : 59 ≤ length (before .journey)) where
   -- "100, round 1" at stop 0
   pub N9-answer : r ≡ Found (record { 0 = 100 }) 0 1 59
-  N9-answer = answered N9 N9-accepted to-4-by-450 h roomy ∙ N9-answered (length j) enough
+  N9-answer = answered N9 N9-accepted to-4-by-450 h roomy ∙ N9-answered (length (before .journey)) enough
 
   -- `arrival-journey`, applied: the first leg leaves stop 0 at 100, the last comes to stop 4 by 450, with two rides
   pub N9-arrives : Arriving (netOf N9) true (4 ∷ []) 450 0 100 2 N9-legs
   unfolding mayWalk
   N9-arrives =
       subst₂ (λ (ss : List ℕ) (gs : List Leg). Arriving (netOf N9) true ss 450 0 100 2 gs) N9-places N9-searched
-      (arrival-journey N9 to-4-by-450 w y p j h N9-answer N9-both refl)
+      (arrival-journey N9 to-4-by-450 before h N9-answer N9-both refl)

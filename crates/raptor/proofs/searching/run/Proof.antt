@@ -1,7 +1,6 @@
 -- `raptor::searching::run` meets its contract: the search, then the reply.
 use borrow.Author.Needs.{needs}
 use Rattle.raptor.proofs.Told.{sized-words, is-chosen, ran}
-use Rattle.raptor.proofs.Told.{is-chosen, ran}
 use Rattle.raptor.proofs.searching.run.Statement.{statement}
 use Rattle.raptor.proofs.searching.run.Tie as tie
 
@@ -39,7 +38,7 @@ returns c =
     let facing = c .before .before .before .before .before .before .before .before .before .before .before .before .before .before .before .direction-of in
     let told = c .before .before .reply in
     ran (start .pre .0) (start .args .q) (start .pre .1 .1 .1) (found .last .1 .0) (found .last .1 .1 .0) (found .ensures .0) (facing .ensures)
-    (found .ensures .1 .1 .1) (found .ensures .1 .1 .0) (found .ensures .1 .0) (told .ensures .0) (told .ensures .1)
+    _ (found .ensures .1 .1 .1) (found .ensures .1 .1 .0) (found .ensures .1 .0) (told .ensures .0) (told .ensures .1)
 
 pub run-spec : {M : Type 1} → statement M
 run-spec =

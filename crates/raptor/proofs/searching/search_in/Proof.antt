@@ -1,7 +1,6 @@
 -- `raptor::searching::search_in` meets its contract: the two halves of the places.
 use borrow.Author.Needs.{needs}
 use Rattle.raptor.proofs.Placing.{part-length, place-from, place-to}
-use Rattle.raptor.proofs.Placing.{place-from, place-to}
 use Rattle.raptor.proofs.searching.search_in.Statement.{statement}
 use Rattle.raptor.proofs.searching.search_in.Tie as tie
 
