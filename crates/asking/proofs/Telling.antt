@@ -13,61 +13,73 @@ use Rattle.model.specs.declared.Query.{Query}
 use Rattle.raptor.specs.declared.Needed.{Needed}
 use Rattle.raptor.specs.declared.Needed.the-variants.{Lengths, Refused as NoLengths}
 use Rattle.raptor.specs.Rooms.{roomOf}
+use Rattle.raptor.specs.Lent.{Lent, lent}
 use Rattle.raptor.specs.Solved.{Solved}
 use Rattle.asking.specs.declared.Told.{Told}
 use Rattle.asking.specs.declared.Told.the-variants.{Answer as Tell, TooLarge}
-use Rattle.asking.specs.Tells.{enough, Untouched, SolvedIn, Tells}
+use Rattle.asking.specs.Tells.{enough, foremost, SolvedIn, Tells}
 
-as-lent : (w y p j : List ℕ) → Untouched w y p j w y p j
-as-lent w y p j = record { words = refl; marks = refl; places = refl; journey = refl }
-
-module _ (t : List ℕ) (q : Query) (w y p j : List ℕ) {n : Needed} (e : n ≡ roomOf t) where
-  pub tells-refused : {k : ℕ} → n ≡ NoLengths k → Tells t q w y p j (Tell (Refused k)) w y p j
+module _ (t : List ℕ) (q : Query) (before : Lent) {n : Needed} (e : n ≡ roomOf t) where
+  pub tells-refused : {k : ℕ} → n ≡ NoLengths k → Tells t q before (Tell (Refused k)) before
   tells-refused {k} f = record {
-    refused = λ k′ g. (cc, as-lent w y p j);
+    refused = λ k′ g. (cc, refl);
     large = λ a b c g h. let z : _≡_ {A = ℕ} 0 1 = cc in absurd (omega arith);
     solved = λ a b c g h. let z : _≡_ {A = ℕ} 0 1 = cc in absurd (omega arith);
   }
 
   module _ {a b c : ℕ} (f : n ≡ Lengths a b c) where
-    tells-large : enough a b c w y p ≡ false → Tells t q w y p j TooLarge w y p j
+    tells-large : enough a b c before ≡ false → Tells t q before TooLarge before
     tells-large s = record {
       refused = λ k g. let z : _≡_ {A = ℕ} 0 1 = cc in absurd (omega arith);
-      large = λ a′ b′ c′ g h. (refl, as-lent w y p j);
+      large = λ a′ b′ c′ g h. (refl, refl);
       solved = λ a′ b′ c′ g h. let z : _≡_ {A = ℕ} 0 1 = cc in absurd (omega arith);
     }
 
-    pub few-words : length w < a → Tells t q w y p j TooLarge w y p j
+    pub few-words : length (before .words) < a → Tells t q before TooLarge before
     unfolding enough
-    few-words h = tells-large (rw (lt-leb a (length w) h))
+    few-words h = tells-large (rw (lt-leb a (length (before .words)) h))
 
-    module _ (hw : a ≤ length w) where
-      pub few-marks : length y < b → Tells t q w y p j TooLarge w y p j
+    module _ (hw : a ≤ length (before .words)) where
+      pub few-marks : length (before .marks) < b → Tells t q before TooLarge before
       unfolding enough
-      few-marks h = tells-large (rw (le-leb a (length w) hw, lt-leb b (length y) h))
+      few-marks h = tells-large (rw (le-leb a (length (before .words)) hw, lt-leb b (length (before .marks)) h))
 
-      module _ (hy : b ≤ length y) where
-        pub few-places : length p < c → Tells t q w y p j TooLarge w y p j
+      module _ (hy : b ≤ length (before .marks)) where
+        pub few-places : length (before .places) < c → Tells t q before TooLarge before
         unfolding enough
-        few-places h = tells-large (rw (le-leb a (length w) hw, le-leb b (length y) hy, lt-leb c (length p) h))
+        few-places h =
+            tells-large
+            (rw (le-leb a (length (before .words)) hw, le-leb b (length (before .marks)) hy, lt-leb c (length (before .places)) h))
 
-        module _ (hp : c ≤ length p) where
-          room-enough : enough a b c w y p ≡ true
+        module _ (hp : c ≤ length (before .places)) where
+          room-enough : enough a b c before ≡ true
           unfolding enough
-          room-enough = rw (le-leb a (length w) hw, le-leb b (length y) hy, le-leb c (length p) hp)
+          room-enough = rw (le-leb a (length (before .words)) hw, le-leb b (length (before .marks)) hy, le-leb c (length (before .places)) hp)
 
-          solved-in : {x : Answer} {w₁ y₁ p₁ j₁ : List ℕ} → Solved t q (take a w) (take b y) (take c p) j x w₁ y₁ p₁ j₁
-              → length w₁ ≡ a → length y₁ ≡ b → length p₁ ≡ c
-              → SolvedIn w y p j (w₁ ++ drop a w) (y₁ ++ drop b y) (p₁ ++ drop c p) j₁ a b c t q x
-          solved-in {w₁ = w₁} {y₁ = y₁} {p₁ = p₁} s lw ly lp = record {
-            solved = rw (take-at w₁ (drop a w) a lw, take-at y₁ (drop b y) b ly, take-at p₁ (drop c p) c lp) s;
-            words = drop-at w₁ (drop a w) a lw;
-            marks = drop-at y₁ (drop b y) b ly;
-            places = drop-at p₁ (drop c p) c lp;
+          -- what was solved in the foremost parts, with what stood behind them
+          abbrev joined : Lent → Lent
+          joined l = record {
+            words = l .words ++ drop a (before .words);
+            marks = l .marks ++ drop b (before .marks);
+            places = l .places ++ drop c (before .places);
+            journey = l .journey;
           }
 
-          tells-answer : {r : Answer} {w′ y′ p′ j′ : List ℕ} → SolvedIn w y p j w′ y′ p′ j′ a b c t q r
-              → Tells t q w y p j (Tell r) w′ y′ p′ j′
+          solved-in : {x : Answer} {l : Lent} → Solved t q (foremost a b c before) x l → length (l .words) ≡ a → length (l .marks) ≡ b
+              → length (l .places) ≡ c → SolvedIn a b c t q before x (joined l)
+          solved-in {l = l} s lw ly lp = record {
+            solved =
+                rw (
+                  take-at (l .words) (drop a (before .words)) a lw,
+                  take-at (l .marks) (drop b (before .marks)) b ly,
+                  take-at (l .places) (drop c (before .places)) c lp,
+                ) s;
+            words = drop-at (l .words) (drop a (before .words)) a lw;
+            marks = drop-at (l .marks) (drop b (before .marks)) b ly;
+            places = drop-at (l .places) (drop c (before .places)) c lp;
+          }
+
+          tells-answer : {r : Answer} {after : Lent} → SolvedIn a b c t q before r after → Tells t q before (Tell r) after
           tells-answer {r} s = record {
             refused = λ k g. let z : _≡_ {A = ℕ} 0 1 = cc in absurd (omega arith);
             large = λ a′ b′ c′ g h. let i = room-enough in let z : _≡_ {A = ℕ} 0 1 = cc in absurd (omega arith);
@@ -78,8 +90,10 @@ module _ (t : List ℕ) (q : Query) (w y p j : List ℕ) {n : Needed} (e : n ≡
                 (r, refl, rw (← ea, ← eb, ← ec) s);
           }
 
-          pub tells-solved : {r : Answer} {w₁ y₁ p₁ j₁ : List ℕ} → Solved t q (take a w) (take b y) (take c p) j r w₁ y₁ p₁ j₁
-              → length w₁ ≡ length (take a w) → length y₁ ≡ length (take b y) → length p₁ ≡ length (take c p)
-              → Tells t q w y p j (Tell r) (w₁ ++ drop a w) (y₁ ++ drop b y) (p₁ ++ drop c p) j₁
+          pub tells-solved : {r : Answer} {w₁ y₁ p₁ j₁ : List ℕ} → Solved t q (foremost a b c before) r (lent w₁ y₁ p₁ j₁)
+              → length w₁ ≡ length (take a (before .words)) → length y₁ ≡ length (take b (before .marks))
+              → length p₁ ≡ length (take c (before .places)) → Tells t q before (Tell r) (joined (lent w₁ y₁ p₁ j₁))
           tells-solved s lw ly lp =
-              tells-answer (solved-in s (lw ∙ length-take-le a w hw) (ly ∙ length-take-le b y hy) (lp ∙ length-take-le c p hp))
+              tells-answer
+              (solved-in s (lw ∙ length-take-le a (before .words) hw) (ly ∙ length-take-le b (before .marks) hy)
+              (lp ∙ length-take-le c (before .places) hp))

@@ -1,6 +1,7 @@
 // What the programs share: a query from the words of a line, and its answer, with the workspace cut from slices that are large enough.
 ghost use mathlib.Core.Path.{_≡_};
 ghost use Rattle.asking.specs.Queries.{placeOf, momentOf, walksOf, modeOf, queryIn};
+ghost use Rattle.raptor.specs.Lent.{lent};
 ghost use Rattle.asking.specs.Tells.{Tells};
 use model::Answer;
 use model::Location;
@@ -115,7 +116,9 @@ pub fn ask(
     journey: &mut [u8],
     q: Query,
 ) -> Told
-    ensures { λ r. ⌜ Tells (now (tables .entry)) q (now (words .entry)) (now (marks .entry)) (now (places .entry)) (now (journey .entry)) r (now (words .exit)) (now (marks .exit)) (now (places .exit)) (now (journey .exit)) ⌝ }
+    ensures { λ r. ⌜ Tells (now (tables .entry)) q
+        (lent (now (words .entry)) (now (marks .entry)) (now (places .entry)) (now (journey .entry))) r
+        (lent (now (words .exit)) (now (marks .exit)) (now (places .exit)) (now (journey .exit))) ⌝ }
 {
     let needed = raptor::room(tables);
     match needed {
