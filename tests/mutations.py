@@ -1,7 +1,7 @@
 #!/usr/bin/env python3
 # A test of the tests: a copy of the tree is damaged in each way in which a page could come to say more than is so, and tests/promises.py,
 # tests/functions.py or tools/letter.py must complain. Where a page is made from the tree it is made anew first, as a hurried hand would.
-import concurrent.futures, os, re, shutil, subprocess, sys, tempfile
+import concurrent.futures, glob, os, re, shutil, subprocess, sys, tempfile
 
 HERE = os.path.abspath(os.path.join(os.path.dirname(os.path.abspath(__file__)), ".."))
 PAGE, COPIES, LIST, LISTS, LETTER = "docs/PROMISES.md", "docs/STATEMENTS.md", "tests/sentences.txt", "tests/functions.py", "docs/LETTER.md"
@@ -83,10 +83,24 @@ def block_of(name):
     return found.group(0)
 
 
-def edit_of(number):
-    """The file of the first edit that a row names."""
-    crate, name = re.findall(r"`([^`]+)`", cell(number, 3))[0].split("/")
-    return f"crates/{crate}/must-fail/{name}.edit"
+def edit_changed(number, change):
+    """Changes the text of the first edit that a row names: a file, or a part of one."""
+
+    def damage():
+        crate, name = re.findall(r"`([^`]+)`", cell(number, 3))[0].split("/")
+        path = f"crates/{crate}/must-fail/{name}.edit"
+        if os.path.exists(os.path.join(room, path)):
+            write(path, change(read(path)))
+            return
+        for path in glob.glob(os.path.join(room, "crates", crate, "must-fail/*.edit")):
+            path = os.path.relpath(path, room)
+            found = re.search(rf"^part: {name}\n((?:(?!part: ).*\n)*)", read(path), re.M)
+            if found:
+                write(path, read(path)[: found.start(1)] + change(found.group(1)) + read(path)[found.end(1) :])
+                return
+        raise SystemExit(f"tests/mutations.py: there is no edit {crate}/{name}")
+
+    return damage
 
 
 def theorem_gone(file, name):
@@ -206,11 +220,11 @@ MUTATIONS = [
     ("a row without an edit", lambda: (set_cell("1.9", 3, ""), sub(LIST, entry("1.9"), re.sub(r"    edits .*\n", "", entry("1.9")))), True, PROMISES, "1.9 has no edit"),
     ("a row with a definition only", definition_only, True, PROMISES, "1.4 has no theorem and no contract"),
     ("a row with no wrong program", lambda: set_cell("1.9", 4, ""), True, PROMISES, "1.9 names no wrong program"),
-    ("an emptied edit", lambda: write(edit_of("1.9"), ""), True, PROMISES, "it replaces nothing"),
-    ("an edit without its new text", lambda: write(edit_of("1.9"), re.sub(r"^new:.*\n", "", read(edit_of("1.9")), flags=re.M)), True, PROMISES, "it replaces nothing"),
-    ("an edit that changes nothing", lambda: write(edit_of("1.9"), re.sub(r"^old: (.*)\nnew: .*$", r"old: \1\nnew: \1", read(edit_of("1.9")), flags=re.M)), True, PROMISES, "it replaces a text by itself"),
-    ("an edit of what is not there", lambda: write(edit_of("1.9"), re.sub(r"^old: ", "old: nowhere ", read(edit_of("1.9")), flags=re.M)), True, PROMISES, "its old text does not stand in"),
-    ("an edit of a proof", lambda: write(edit_of("1.9"), re.sub(r"^file: \w+/", "file: proofs/", read(edit_of("1.9")), flags=re.M)), True, PROMISES, "which is no code and no definition"),
+    ("an emptied edit", edit_changed("1.9", lambda text: ""), True, PROMISES, "it replaces nothing"),
+    ("an edit without its new text", edit_changed("1.9", lambda text: re.sub(r"^new:.*\n", "", text, flags=re.M)), True, PROMISES, "it replaces nothing"),
+    ("an edit that changes nothing", edit_changed("1.9", lambda text: re.sub(r"^old: (.*)\nnew: .*$", r"old: \1\nnew: \1", text, flags=re.M)), True, PROMISES, "it replaces a text by itself"),
+    ("an edit of what is not there", edit_changed("1.9", lambda text: re.sub(r"^old: ", "old: nowhere ", text, flags=re.M)), True, PROMISES, "its old text does not stand in"),
+    ("an edit of a proof", edit_changed("1.9", lambda text: re.sub(r"^file: \w+/", "file: proofs/", text, flags=re.M)), True, PROMISES, "which is no code and no definition"),
     ("an edit gone", lambda: set_cell("1.9", 3, lambda c: c.replace("`model/", "`model/no_")), True, PROMISES, "no edit model/no_"),
     ("a theorem deleted together with its block", theorem_and_block_gone, True, PROMISES, "row 3.8 does not have raptor/proofs/Promises.antt chosen-round"),
     ("a theorem deleted with all that names it", row_without_its_only_theorem, True, PROMISES, "1.7 has no theorem and no contract"),

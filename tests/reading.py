@@ -100,7 +100,8 @@ class Function:
             else:
                 break
         self.head = text[found.start() : at].rstrip()
-        self.body = text[at : close(text, at, "{", "}") + 1] if text.startswith("{", at) else ""
+        self.begins, self.ends = at, close(text, at, "{", "}") + 1 if text.startswith("{", at) else at
+        self.body = text[self.begins : self.ends]
         crate, module = path.split("/")[1], os.path.basename(path)[:-3]
         self.where = "::".join([crate] + ([module] if module != "lib" else []) + ([self.owner] if self.owner else []) + [self.name])
 
@@ -150,29 +151,35 @@ def crates():
     return [line.split(":")[0].strip() for line in text_of("crates.txt").split("\n") if re.match(r"\w+:", line)]
 
 
+def parts_of(text, alone):
+    """The parts of an edit's text: of each its name and its replacements (file, old, new). One without a line `part: NAME` is a part itself, named `alone`."""
+    found, part, file, old = {}, alone, "", ""
+    for line in text.split("\n"):
+        if line.startswith("part: "):
+            part = line[6:].strip()
+            if part in found:
+                raise ValueError(f"two parts are {part}")
+            found[part] = []
+        elif line.startswith("file: "):
+            file = line[6:]
+        elif line.startswith("old: "):
+            old = line[5:]
+        elif line.startswith("new:"):
+            found.setdefault(part, []).append((file, old, line[4:].removeprefix(" ")))
+            old = ""
+    return found or {alone: []}
+
+
 def edits():
     """Each edit that the prover must refuse, by `crate/name`, and what is wrong with its text: it must replace something that stands there by something
-    else. A file may hold several (`part: NAME`)."""
+    else. A file may hold several (`part: NAME`, tests/edits.py)."""
     found = {}
     for path in sorted(glob.glob(os.path.join(HERE, "crates/*/must-fail/*.edit"))):
         crate = os.path.relpath(path, HERE).split("/")[1]
-        part, file, old, pairs, wrong = os.path.basename(path)[:-5], "", "", 0, ""
-        names = {part: []}
-        for line in text_of(os.path.relpath(path, HERE)).split("\n"):
-            if line.startswith("part: "):
-                part = line[6:].strip()
-                names.setdefault(part, [])
-            elif line.startswith("file: "):
-                file = line[6:]
-            elif line.startswith("old: "):
-                old = line[5:]
-            elif line.startswith("new:"):
-                names[part].append((file, old, line[4:].removeprefix(" ")))
-                old = ""
-        if len(names) > 1 and not names[os.path.basename(path)[:-5]]:
-            del names[os.path.basename(path)[:-5]]
-        for name, pairs in names.items():
-            found[f"{crate}/{name}"] = "it replaces nothing" if not pairs else next((w for w in map(lambda p: bad_pair(crate, *p), pairs) if w), "")
+        for name, pairs in parts_of(text_of(os.path.relpath(path, HERE)), os.path.basename(path)[:-5]).items():
+            one = f"{crate}/{name}"
+            wrong = "it replaces nothing" if not pairs else next((w for w in map(lambda p: bad_pair(crate, *p), pairs) if w), "")
+            found[one] = "two edits have this name" if one in found else wrong
     return found
 
 
