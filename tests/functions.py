@@ -18,15 +18,15 @@ OUTSIDE = {
     "print::legs": PRINTS,
     "replay::probe::answer_line": PRINTS,
     "replay::rust::answer_line": PRINTS,
-    "kiosk::meant::print_meant": PRINTS,
-    "kiosk::meant::print_missing": PRINTS,
-    "kiosk::moment::print_moment": PRINTS,
+    "loading::load": READS,
+    "loading::print_fault": PRINTS,
+    "telling::meant::print_meant": PRINTS,
+    "telling::meant::print_missing": PRINTS,
+    "telling::moment::print_moment": PRINTS,
+    "telling::tell": PRINTS,
     "kiosk::options::with_option": PRINTS + " what is wrong with an option; what it means is `arguments::options::with_said`",
     "kiosk::query::read_query": READS,
     "kiosk::query::asks_help": READS,
-    "kiosk::tables::load": READS,
-    "kiosk::tables::print_fault": PRINTS,
-    "kiosk::telling::tell": PRINTS,
 }
 # What states less than it could, and why that is borne: nothing.
 LESS = {}

@@ -202,7 +202,7 @@ MUTATIONS = [
     ("a public function for C that states nothing", added("crates/kiosk_c/src/lib.rt", '#[no_mangle]\npub extern "C" fn kiosk_more() -> u32 {\n    0\n}\n'), True, FUNCTIONS, "kiosk_c::kiosk_more states nothing"),
     *(
         (f"one in {where}", added(f"crates/{where.replace('::', '/src/', 1)}.rt", "pub fn more() -> u32 {\n    0\n}\n"), True, FUNCTIONS, f"{where.removesuffix('::lib')}::more states nothing")
-        for where in ("asking::lib", "print::lib", "lines::lib", "replay::probe", "kiosk::moment")
+        for where in ("asking::lib", "print::lib", "lines::lib", "replay::probe", "telling::moment")
     ),
     ("a slice that may be written, and nothing said of it", dropped_clause, True, FUNCTIONS, "kiosk_read does not say what it leaves in told"),
     ("a result of which only a bound is said", checked_says("r ≤ 5"), True, FUNCTIONS, "check_tables::check leaves open its result"),

@@ -1,12 +1,8 @@
 // Answers one query for a person: where from, where to, when; the journey comes in plain words, or why there is none. The buffers of the
 // program take 57 KiB in all.
-mod meant;
-mod moment;
-mod network;
-mod options;
-mod query;
-mod tables;
-mod telling;
+mod network; // network.rt: network N, which is built in
+mod options; // options.rt: the options that the arguments say
+mod query; // query.rt: the query that the arguments are
 
 use query::Asked;
 use query::Question;
@@ -19,7 +15,7 @@ fn answer(tables: &[u32], path: &[u8], asked: Question) {
     let mut journey = [0u8; 4096];
     let q = asked.query;
     let told = asking::ask(tables, &mut words, &mut marks, &mut places, &mut journey, q);
-    telling::tell(tables, path, &journey, told, asked);
+    telling::tell(tables, path, &journey, told, q, asked.midnight);
 }
 
 // The query on the network that is built in.
@@ -30,10 +26,10 @@ fn answer_built_in(asked: Question) {
 
 // The query on the tables of a file.
 fn answer_file(path: &[u8], tables: &mut [u32], asked: Question) {
-    let words = tables::load(path, tables);
+    let words = loading::load(path, tables);
     let count = words.count;
     if words.fault != 0 {
-        tables::print_fault(path, words);
+        loading::print_fault(path, words);
         return;
     }
     if tables.len() < count {

@@ -1,9 +1,9 @@
--- `kiosk::meant::print_area_in`: the stops of the area are a part of the places.
+-- `telling::meant::print_area_in`: the stops of the area are a part of the places.
 use borrow.Author.Needs.{needs}
-use Rattle.kiosk.proofs.Parts.{part-has}
+use Rattle.telling.proofs.Parts.{part-has}
 use Rattle.asking.proofs.Parts.{part-long}
-use Rattle.kiosk.proofs.meant.print_area_in.Statement.{statement}
-use Rattle.kiosk.proofs.meant.print_area_in.Tie as tie
+use Rattle.telling.proofs.meant.print_area_in.Statement.{statement}
+use Rattle.telling.proofs.meant.print_area_in.Tie as tie
 
 stop-count-requires : tie.Need-stop-count-requires
 stop-count-requires c κs = search needs

@@ -1,15 +1,15 @@
--- `kiosk::telling::last_leg` ends: each leg takes a byte at least.
+-- `telling::count_rides` ends: each leg takes a byte at least.
 use borrow.Author.Needs.{needs}
-use Prim.Native.Nat.{_-_}
+use Prim.Native.Nat.{_-_, _≤_}
 use lib.ListN.{length}
-use Rattle.kiosk.proofs.telling.last_leg.Statement.{statement}
-use Rattle.kiosk.proofs.telling.last_leg.Tie as tie
+use Rattle.telling.proofs.count_rides.Statement.{statement}
+use Rattle.telling.proofs.count_rides.Tie as tie
 
 abbrev Inv-loop : tie.InvT-loop
-Inv-loop bytes last₀ at₀ last at = Unit {0}
+Inv-loop bytes rides₀ at₀ rides at = rides ≤ at
 
 abbrev μ-loop : tie.MeasureT-loop
-μ-loop bytes last₀ at₀ last at = length bytes - at
+μ-loop bytes rides₀ at₀ rides at = length bytes - at
 
 loop-holds : tie.Need-loop-holds Inv-loop μ-loop
 loop-holds c = search needs
@@ -22,6 +22,12 @@ enum-known-next c = search needs
 
 returns : tie.Need-returns Inv-loop μ-loop
 returns c = search needs
+
+rides-of-requires : tie.Need-rides-of-requires Inv-loop μ-loop
+rides-of-requires c κs = search needs
+
+add-rides : tie.Need-add-rides Inv-loop μ-loop
+add-rides c = search needs
 
 size-requires : tie.Need-size-requires Inv-loop μ-loop
 size-requires c κs = search needs
@@ -38,8 +44,8 @@ loop-again c = search needs
 returns-2 : tie.Need-returns-2 Inv-loop μ-loop
 returns-2 c = search needs
 
-pub last-leg-spec : {M : Type 1} → statement M
-last-leg-spec =
+pub count-rides-spec : {M : Type 1} → statement M
+count-rides-spec =
     tie.close
     (tie.spec
     Inv-loop
@@ -48,6 +54,8 @@ last-leg-spec =
     read-leg-requires
     enum-known-next
     returns
+    rides-of-requires
+    add-rides
     size-requires
     add-at
     loop-less

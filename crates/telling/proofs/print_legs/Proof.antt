@@ -1,9 +1,9 @@
--- `kiosk::telling::print_legs` ends: each leg takes a byte at least.
+-- `telling::print_legs` ends: each leg takes a byte at least.
 use borrow.Author.Needs.{needs}
 use lib.ListN.{length}
 use Prim.Native.Nat.{_-_}
-use Rattle.kiosk.proofs.telling.print_legs.Statement.{statement}
-use Rattle.kiosk.proofs.telling.print_legs.Tie as tie
+use Rattle.telling.proofs.print_legs.Statement.{statement}
+use Rattle.telling.proofs.print_legs.Tie as tie
 
 abbrev Inv-loop : tie.InvT-loop
 Inv-loop bytes midnight at₀ at = Unit {0}

@@ -1,10 +1,10 @@
--- `kiosk::tables::feed_all` ends.
+-- `loading::feed_all` ends.
 use borrow.Author.Needs.{needs}
 use mathlib.Core.Path.{_≡_}
 use lib.ListN.{length}
 use Prim.Native.Nat.{_-_}
-use Rattle.kiosk.proofs.tables.feed_all.Statement.{statement}
-use Rattle.kiosk.proofs.tables.feed_all.Tie as tie
+use Rattle.loading.proofs.feed_all.Statement.{statement}
+use Rattle.loading.proofs.feed_all.Tie as tie
 
 abbrev Inv-loop : tie.InvT-loop
 Inv-loop tables₀ block w₀ i₀ tables w i = length tables ≡ length tables₀

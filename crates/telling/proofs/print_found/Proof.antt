@@ -1,8 +1,8 @@
--- `kiosk::telling::print_found`: the journey is a part of its buffer.
+-- `telling::print_found`: the journey is a part of its buffer.
 use borrow.Author.Needs.{needs}
 use Rattle.asking.proofs.Parts.{part-long}
-use Rattle.kiosk.proofs.telling.print_found.Statement.{statement}
-use Rattle.kiosk.proofs.telling.print_found.Tie as tie
+use Rattle.telling.proofs.print_found.Statement.{statement}
+use Rattle.telling.proofs.print_found.Tie as tie
 
 returns : tie.Need-returns
 returns c = search needs

@@ -1,9 +1,9 @@
--- `kiosk::tables::read_all` ends.
+-- `loading::read_all` ends.
 use borrow.Author.Needs.{needs}
 use mathlib.Core.Path.{_≡_}
 use lib.ListN.{length}
-use Rattle.kiosk.proofs.tables.read_all.Statement.{statement}
-use Rattle.kiosk.proofs.tables.read_all.Tie as tie
+use Rattle.loading.proofs.read_all.Statement.{statement}
+use Rattle.loading.proofs.read_all.Tie as tie
 
 abbrev Inv-loop : tie.InvT-loop
 Inv-loop fd tables₀ turn₀ turns₀ tables turn turns = length tables ≡ length tables₀

@@ -1,7 +1,7 @@
 // An answer in words: the journey, leg by leg, or the number of a refusal and what it means.
-use super::meant;
-use super::moment;
-use super::query::Question;
+mod meant; // meant.rt: which stops a place stands for, which place there is none of
+mod moment; // moment.rt: a moment as a clock shows it
+
 use asking::Told;
 use journey::LegRead;
 use model::Answer;
@@ -201,11 +201,9 @@ fn print_no_route(time: TimeConstraint) {
     }
 }
 
-// The answer; the journey stands in `journey`, the tables are those of the file at `path`.
-pub fn tell(tables: &[u32], path: &[u8], journey: &[u8], told: Told, asked: Question) {
-    let q = asked.query;
+// The answer to q; the journey stands in `journey`, the tables are those of the file at `path`.
+pub fn tell(tables: &[u32], path: &[u8], journey: &[u8], told: Told, q: Query, midnight: u32) {
     let time = q.time;
-    let midnight = asked.midnight;
     let Told::Answer(a) = told else {
         print::text(
             b"these tables need more room than this program has: link the library (see README)\n",
