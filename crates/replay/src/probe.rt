@@ -131,9 +131,7 @@ fn ask(
 }
 
 // What the length of a slice is where it is to be one short.
-fn short(length: usize, fault: bool) -> usize
-    ensures { λ r. ⌜ r ≤ length ⌝ }
-{
+fn short(length: usize, fault: bool) -> usize {
     if fault {
         if 0 < length {
             return length - 1;
@@ -142,31 +140,40 @@ fn short(length: usize, fault: bool) -> usize
     length
 }
 
-// The lengths that are lent: what the tables ask for, or one word each for tables that are refused.
+// The lengths that are lent: what the tables ask for, or one word each for tables that are refused; the fault makes one of them short.
 struct Lent {
     words: usize,
     marks: usize,
     places: usize,
+    journey: usize,
 }
 
-fn lent_to(tables: &[u32]) -> Lent {
+fn shortened(words: usize, marks: usize, places: usize, journey: usize, fault: u32) -> Lent {
+    let w = short(words, fault == 1);
+    let y = short(marks, fault == 2);
+    let p = short(places, fault == 3);
+    Lent {
+        words: w,
+        marks: y,
+        places: p,
+        journey: journey,
+    }
+}
+
+fn lent_to(tables: &[u32], journey: usize, fault: u32) -> Lent {
     let needed = raptor::room(tables);
     match needed {
         Needed::Lengths {
             words: w,
             marks: y,
             places: p,
-        } => return Lent {
-            words: w,
-            marks: y,
-            places: p,
-        },
-        Needed::Refused(_) => return Lent {
-            words: 1,
-            marks: 1,
-            places: 1,
-        },
+        } => return shortened(w, y, p, journey, fault),
+        Needed::Refused(_) => return shortened(1, 1, 1, journey, fault),
     }
+}
+
+fn too_large() {
+    print::text(b"too large\n");
 }
 
 // Cuts the slices to the lengths that are lent.
@@ -177,27 +184,26 @@ fn cut(
     places: &mut [u32],
     journey: &mut [u8],
     q: Query,
-    buffer: usize,
-    fault: u32,
+    to: Lent,
 ) {
-    let lent = lent_to(tables);
-    let w = short(lent.words, fault == 1);
-    let y = short(lent.marks, fault == 2);
-    let p = short(lent.places, fault == 3);
+    let w = to.words;
+    let y = to.marks;
+    let p = to.places;
+    let z = to.journey;
     if words.len() < w {
-        print::text(b"too large\n");
+        too_large();
         return;
     }
     if marks.len() < y {
-        print::text(b"too large\n");
+        too_large();
         return;
     }
     if places.len() < p {
-        print::text(b"too large\n");
+        too_large();
         return;
     }
-    if journey.len() < buffer {
-        print::text(b"too large\n");
+    if journey.len() < z {
+        too_large();
         return;
     }
     ask(
@@ -205,7 +211,7 @@ fn cut(
         &mut words[..w],
         &mut marks[..y],
         &mut places[..p],
-        &mut journey[..buffer],
+        &mut journey[..z],
         q,
     );
 }
@@ -215,6 +221,7 @@ fn answer(tables: &[u32], q: Query, buffer: usize, fault: u32) {
     let mut marks = [7u64; 32];
     let mut places = [7u32; 128];
     let mut journey = [7u8; 4096];
+    let to = lent_to(tables, buffer, fault);
     cut(
         tables,
         &mut words,
@@ -222,8 +229,7 @@ fn answer(tables: &[u32], q: Query, buffer: usize, fault: u32) {
         &mut places,
         &mut journey,
         q,
-        buffer,
-        fault,
+        to,
     );
 }
 

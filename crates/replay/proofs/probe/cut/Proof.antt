@@ -4,50 +4,26 @@ use Rattle.asking.proofs.Parts.{part-long}
 use Rattle.replay.proofs.probe.cut.Statement.{statement}
 use Rattle.replay.proofs.probe.cut.Tie as tie
 
-lent-to-requires : tie.Need-lent-to-requires
-lent-to-requires c κs = search needs
-
-short-requires : tie.Need-short-requires
-short-requires c κs = search needs
-
-short-requires-2 : tie.Need-short-requires-2
-short-requires-2 c κs = search needs
-
-short-requires-3 : tie.Need-short-requires-3
-short-requires-3 c κs = search needs
-
-slice-aggregate-text : tie.Need-slice-aggregate-text
-slice-aggregate-text c = search (needs, part-long)
-
-text-requires : tie.Need-text-requires
-text-requires c κs = search needs
+too-large-requires : tie.Need-too-large-requires
+too-large-requires c κs = search needs
 
 returns : tie.Need-returns
 returns c = search needs
 
-slice-aggregate-text-2 : tie.Need-slice-aggregate-text-2
-slice-aggregate-text-2 c = search (needs, part-long)
-
-text-requires-2 : tie.Need-text-requires-2
-text-requires-2 c κs = search needs
+too-large-requires-2 : tie.Need-too-large-requires-2
+too-large-requires-2 c κs = search needs
 
 returns-2 : tie.Need-returns-2
 returns-2 c = search needs
 
-slice-aggregate-text-3 : tie.Need-slice-aggregate-text-3
-slice-aggregate-text-3 c = search (needs, part-long)
-
-text-requires-3 : tie.Need-text-requires-3
-text-requires-3 c κs = search needs
+too-large-requires-3 : tie.Need-too-large-requires-3
+too-large-requires-3 c κs = search needs
 
 returns-3 : tie.Need-returns-3
 returns-3 c = search needs
 
-slice-aggregate-text-4 : tie.Need-slice-aggregate-text-4
-slice-aggregate-text-4 c = search (needs, part-long)
-
-text-requires-4 : tie.Need-text-requires-4
-text-requires-4 c κs = search needs
+too-large-requires-4 : tie.Need-too-large-requires-4
+too-large-requires-4 c κs = search needs
 
 returns-4 : tie.Need-returns-4
 returns-4 c = search needs
@@ -98,21 +74,13 @@ pub cut-spec : {M : Type 1} → statement M
 cut-spec =
     tie.close
     (tie.spec
-    lent-to-requires
-    short-requires
-    short-requires-2
-    short-requires-3
-    slice-aggregate-text
-    text-requires
+    too-large-requires
     returns
-    slice-aggregate-text-2
-    text-requires-2
+    too-large-requires-2
     returns-2
-    slice-aggregate-text-3
-    text-requires-3
+    too-large-requires-3
     returns-3
-    slice-aggregate-text-4
-    text-requires-4
+    too-large-requires-4
     returns-4
     slice-relend-prefix-ask
     slice-aggregate-ask
