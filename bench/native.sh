@@ -1,39 +1,42 @@
 #!/bin/sh
 # native.sh CRATE OUT.o: the proved LLVM module of a library crate, compiled for this machine. What is shipped is the archive of
-# `rt staticlib`, which links into x86-64 programs; this is a way to measure and test on another processor.
+# `rt staticlib`, which links into x86-64 programs; this is a way to measure and test on another processor. On x86-64 it leaves that archive too,
+# target/staticlib/libCRATE.a: one proof serves both.
 # SANITIZE=1 builds it for libFuzzer and the address sanitizer (fuzz.sh): its reads, writes, edges and comparisons are watched.
 set -eu
 cd "$(dirname "$0")/.."
 crate=$1 out=$(cd "$OLDPWD" && realpath -m "$2")
+machine=$(uname -m)
 home=$(dirname "$(dirname "$(rt doc)")")
-own=$home/on/$(uname -m)
-[ -d "$own" ] || own=$home
+own=$home/on/$machine
 tools=$own/toolchain
 room=$(mktemp -d)
 trap 'rm -rf "$room"' EXIT
-mkdir -p "$room/tools/bin"
-ln -s "$tools/lib" "$room/tools/lib"
-for f in "$tools"/bin/*; do [ "$(basename "$f")" = clang ] || ln -s "$f" "$room/tools/bin/"; done
-cat > "$room/tools/bin/clang" <<X
+rt check "$crate" > "$room/said" 2>&1 || { tail -n 5 "$room/said"; exit 1; }
+# To lower a crate it is proved once more, so what comes of that is kept until the crate changes: the module, and on x86-64 the archive too.
+kept=target/native/$crate archive=target/staticlib/lib$crate.a
+mkdir -p target/native
+if ! cmp -s "target/stamp/$crate" "$kept.stamp" || { [ "$machine" = x86_64 ] && [ ! -f "$archive" ]; }; then
+    # `rt staticlib` on a kit of links, in which the compiler is one that keeps the module that it is given
+    kit=$room/kit/on/$machine
+    mkdir -p "$kit/toolchain/bin"
+    for f in "$home"/*; do [ "$f" = "$home/on" ] || ln -s "$f" "$room/kit/"; done
+    for f in "$own"/*; do [ "$f" = "$tools" ] || ln -s "$f" "$kit/"; done
+    for f in "$tools"/*; do [ "$f" = "$tools/bin" ] || ln -s "$f" "$kit/toolchain/"; done
+    for f in "$tools"/bin/*; do [ "$f" = "$tools/bin/clang" ] || ln -s "$f" "$kit/toolchain/bin/"; done
+    cat > "$kit/toolchain/bin/clang" <<X
 #!/bin/sh
 for a in "\$@"; do case \$a in *.bc) cp "\$a" "$room/module.bc" ;; esac; done
 exec "$tools/bin/clang" "\$@"
 X
-chmod +x "$room/tools/bin/clang"
-rt check "$crate" > "$room/said" 2>&1 || { tail -n 5 "$room/said"; exit 1; }
-# the module of a crate that has not changed since is kept, since to lower it the crate is proved once more
-kept=target/native/$crate
-mkdir -p target/native
-if ! cmp -s "target/stamp/$crate" "$kept.stamp"; then
-    set --
-    for d in $(sed -n "s/^$crate: *//p" crates.txt); do set -- "$@" --extern "$d=target/rlib/$d.rlib"; done
-    "$own/bin/rattle" build --crate-name "$crate" "crates/$crate/src/lib.rt" --extern "std=$own/rlib/std.rlib" "$@" \
-        -L dependency=target/rlib -L "dependency=$own/rlib" --antt-project "$home/logic/antt-project.json" --logic-built "$own/logic-built" \
-        --toolchain "$room/tools" --crate-type staticlib -o "$room/lib.a" > "$room/said" 2>&1 || { tail -n 5 "$room/said"; exit 1; }
+    chmod +x "$kit/toolchain/bin/clang"
+    rm -f "$archive"
+    RATTLE_HOME=$room/kit rt staticlib "$crate" > "$room/said" 2>&1 || { tail -n 5 "$room/said"; exit 1; }
+    [ "$machine" = x86_64 ] || rm -f "$archive"         # what is shipped is built on x86-64
     mv "$room/module.bc" "$kept.bc"
     cp "target/stamp/$crate" "$kept.stamp"
 fi
-triple=$(uname -m)-unknown-linux-gnu
+triple=$machine-unknown-linux-gnu
 compile() { "$tools/bin/clang" --target="$triple" -Wno-override-module -x ir "$@"; }
 if [ "${SANITIZE:-0}" = 0 ]; then
     compile -O3 -c "$kept.bc" -o "$out"

@@ -7,14 +7,13 @@ if [ -n "${KIOSK_LIB_DIR:-}" ]; then
     exit
 fi
 cd "$(dirname "$0")/.."
+lib=$PWD/target/native
+mkdir -p "$lib"
+bench/native.sh kiosk_c "$lib/kiosk_c.o" >&2
 if [ "$(uname -m)" = x86_64 ]; then
-    rt staticlib kiosk_c >&2
-    echo "$PWD/target/staticlib"
+    echo "$PWD/target/staticlib"           # native.sh left it there
 else
-    lib=$PWD/target/native
-    mkdir -p "$lib"
     rm -f "$lib/libkiosk_c.a"           # ar adds to an archive that is there
-    bench/native.sh kiosk_c "$lib/kiosk_c.o" >&2
     ar rcs "$lib/libkiosk_c.a" "$lib/kiosk_c.o"
     echo "$lib"
 fi
