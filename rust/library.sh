@@ -9,7 +9,7 @@ fi
 cd "$(dirname "$0")/.."
 lib=$PWD/target/native
 mkdir -p "$lib"
-bench/native.sh kiosk_c "$lib/kiosk_c.o" >&2
+compare/native.sh kiosk_c "$lib/kiosk_c.o" >&2
 if [ "$(uname -m)" = x86_64 ]; then
     echo "$PWD/target/staticlib"           # native.sh left it there
 else
