@@ -1,0 +1,123 @@
+/* Two states of the proved library in one program, at the limits: the same answers, and the time of each.
+
+   old_and_new [ROUNDS]     default 31
+
+   A round asks both all the queries of a kind, or checks the tables with both: of each query the old one, then the new one, or the other way
+   round, in the same workspace, so that other work on the machine meets both alike; what is counted is the processor's time. Printed are the
+   medians over the rounds in microseconds, and that of the rounds' quotients, with those that a quarter of the rounds are below and above; and
+   the quotient of the least times: of each query the least over the rounds, summed. The last two kinds ask the old one alone, as if it were both:
+   their quotients are the noise. */
+#include <stdio.h>
+#include <stdlib.h>
+#include <string.h>
+#include <time.h>
+#include "../compare/city.h"
+#include "../compare/dice.h"
+#include "../plain/tables.h"
+
+/* The old library's functions, renamed by old_and_new.sh. */
+solver old_kiosk_solve_checked;
+uint32_t old_kiosk_check(const uint32_t *tables, size_t tables_len);
+
+enum { OLD, NEW, BOTH, QUERIES = 64, CHECKS = 8, MOST_ROUNDS = 1001 };
+static flat city;
+static lent given[BOTH];
+
+static double now(void) {
+    struct timespec s;
+    clock_gettime(CLOCK_THREAD_CPUTIME_ID, &s);
+    return (double)s.tv_sec * 1e6 + (double)s.tv_nsec / 1e3;
+}
+
+static void end(const char *why) { fprintf(stderr, "%s\n", why), exit(1); }
+
+/* ---- what is timed: a query, or where it is NULL a check */
+
+typedef void runner(const lent *l, const query *q);
+static void keep(uint32_t number) { volatile uint32_t kept = number; (void)kept; }
+static void by_old(const lent *l, const query *q) {
+    keep(q ? ask(old_kiosk_solve_checked, city.word, city.len, l, q) : old_kiosk_check(city.word, city.len));
+}
+static void by_new(const lent *l, const query *q) {
+    keep(q ? ask(kiosk_solve_checked, city.word, city.len, l, q) : kiosk_check(city.word, city.len));
+}
+
+/* ---- the city, and queries in it on which both give the same answer, journey and workspace */
+
+static void make_ready(void) {
+    network n = { 0 };
+    make_city(&n, limit_city, 1);
+    flatten(&n, &city);
+    if (old_kiosk_check(city.word, city.len) != 0 || kiosk_check(city.word, city.len) != 0) end("the city is refused");
+    for (int i = 0; i < BOTH; i++) {
+        right_lengths(city.word, given[i].len);
+        given[i].len[JOURNEY] = KIOSK_MOST_JOURNEY, given[i].len[ANSWER] = 5;
+        for (int k = 0; k < SLICES; k++) given[i].at[k] = malloc(bytes_of(&given[i], k));
+    }
+}
+
+static void draw(uint32_t when, uint32_t mode, query *q) {
+    static network n;
+    if (n.stops == 0) make_city(&n, limit_city, 1);
+    for (int k = 0; k < QUERIES;) {
+        q[k] = city_query(&n, when, mode);
+        if (refusal(city.word, &q[k])) continue;
+        for (int i = 0; i < BOTH; i++) for (int s = 0; s < SLICES; s++) memset(given[i].at[s], JUNK, bytes_of(&given[i], s));
+        by_old(&given[OLD], &q[k]), by_new(&given[NEW], &q[k]);
+        for (int s = 0; s < SLICES; s++) if (memcmp(given[OLD].at[s], given[NEW].at[s], bytes_of(&given[OLD], s)) != 0) end(slice_name[s]);
+        k += answer_of(&given[OLD])[0] == 0;            /* journeys that are found */
+    }
+}
+
+/* ---- timing */
+
+static int by_size(const void *a, const void *b) { double x = *(const double *)a, y = *(const double *)b; return (x > y) - (x < y); }
+static double quantile(double *x, int count, double part) {
+    qsort(x, (size_t)count, sizeof *x, by_size);
+    return x[(int)(part * (count - 1) + 0.5)];
+}
+
+static void compare(const char *name, runner *const run[BOTH], const query *q, int count, int rounds) {
+    static double us[BOTH][MOST_ROUNDS], ratio[MOST_ROUNDS], least[BOTH][QUERIES];
+    double best[BOTH] = { 0 };
+    for (int r = -1; r < rounds; r++) {                 /* the first round is for warming up */
+        double sum[BOTH] = { 0 };
+        for (int k = 0; k < count; k++) for (int i = 0; i < BOTH; i++) {
+            int which = (r + k + i) & 1;
+            double start = now();
+            run[which](&given[OLD], q ? &q[k] : NULL);
+            double took = now() - start;
+            sum[which] += took;
+            if (r <= 0 || took < least[which][k]) least[which][k] = took;
+        }
+        if (r < 0) continue;
+        for (int i = 0; i < BOTH; i++) us[i][r] = sum[i] / count;
+        ratio[r] = sum[NEW] / sum[OLD];
+    }
+    for (int i = 0; i < BOTH; i++) for (int k = 0; k < count; k++) best[i] += least[i][k];
+    printf("| %s | %.1f | %.1f |", name, quantile(us[OLD], rounds, 0.5), quantile(us[NEW], rounds, 0.5));
+    printf(" %.3f | %.3f to %.3f |", quantile(ratio, rounds, 0.5), quantile(ratio, rounds, 0.25), quantile(ratio, rounds, 0.75));
+    printf(" %.3f |\n", best[NEW] / best[OLD]);
+    fflush(stdout);
+}
+
+int main(int argc, char **argv) {
+    static const char *const name[2][2] = { { "departure", "arrival" }, { "departure, rescan", "arrival, rescan" } };
+    static runner *const both[BOTH] = { by_old, by_new }, *const alone[BOTH] = { by_old, by_old };
+    query q[QUERIES];
+    int rounds = argc > 1 ? atoi(argv[1]) : 31;
+    if (rounds < 1 || rounds > MOST_ROUNDS) end("old_and_new [ROUNDS]");
+    make_ready();
+    seed_dice(1, 0);
+    printf("| at the limits | old | new | new / old | a quarter below and above | of the least |\n|---|---|---|---|---|---|\n");
+    for (uint32_t mode = 0; mode < 2; mode++) for (uint32_t when = 0; when < 2; when++) {
+        draw(when, mode, q);
+        compare(name[mode][when], both, q, QUERIES, rounds);
+    }
+    compare("the check", both, NULL, CHECKS, rounds);
+    seed_dice(1, 0);
+    draw(0, 0, q);
+    compare("departure, old and old", alone, q, QUERIES, rounds);
+    compare("the check, old and old", alone, NULL, CHECKS, rounds);
+    return 0;
+}
