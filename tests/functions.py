@@ -1,6 +1,6 @@
 #!/usr/bin/env python3
-# Writes docs/FUNCTIONS.md: every public function of every crate, what its contract says of its result and of each thing lent to be written, and by
-# what two results that meet it are equal. A function that leaves something unsaid or open must stand in a list below, alone and with the reason;
+# Writes docs/FUNCTIONS.md: every public function of every crate, what its contract states, in the contract's own words, and by what two results that
+# meet it are equal. A function that leaves something unsaid or open must stand in a list below, alone and with the reason;
 # one that stands there without need is an error too. With `check` the page is only held to the tree.
 import glob, os, re, sys
 
@@ -38,6 +38,7 @@ LAWS = {
     "Faced": ("kiosk_c/proofs/Unique.antt", "faced-unique"),
     "Ran": ("raptor/proofs/Unique.antt", "ran-unique"),
     "Tells": ("asking/proofs/Unique.antt", "asked-unique"),
+    "Does": ("allocator/proofs/Same.antt", "same-words"),
     "Tidy": ("allocator/proofs/Same.antt", "same-words"),
     "Kept": ("allocator/proofs/Same.antt", "same-words"),
 }
@@ -72,6 +73,39 @@ def parts(clause):
     return name, [re.sub(r"^\(\w+ : ℕ\) → ", "", p) for p in pieces]  # what holds for every number holds for one
 
 
+def arguments(term):
+    """The words and bracketed parts of a term, as they follow one another."""
+    found, depth, start = [], 0, 0
+    for at, c in enumerate(term + " "):
+        depth += (c in "({[⟦") - (c in ")}]⟧")
+        if c == " " and depth == 0:
+            found.append(term[start:at])
+            start = at + 1
+    return [a for a in found if a]
+
+
+def stated(f):
+    """What the contract states, in its own words but for three names: what is lent is called by its name as it comes and with ′ as it is left, and what is
+    given back is the result."""
+    names, out = re.findall(r"(\w+)\s*:", f.parameters), []
+    if "result" in names:
+        complain(f"{f.path}: {f.where} calls a parameter `result`, the word that docs/FUNCTIONS.md has for what is given back")
+    for clause in f.says:
+        found = re.match(r"λ\s*\(?\s*([^\s.:)]+)[^.]*\.\s*(.*)$", clause, re.S)
+        name, body = (found.group(1), found.group(2)) if found else ("_", clause)
+        body = body.strip().removeprefix("⌜").removesuffix("⌝").strip()
+        for lent in names:
+            own = rf"(?:«{lent}»|{lent})"
+            for state, word in ((" \\.entry", lent), (" \\.exit", lent + "′")):
+                for around in (r"\(now \(@\)\)", r"now \(@\)"):
+                    body = re.sub(around.replace("@", own + state), word, body)
+            body = body.replace(f"«{lent}»", lent)
+        if name != "_":
+            body = re.sub(rf"(?:now )?(?<![\w.«′-]){re.escape(name)}(?![\w′-])", "result", body)
+        out.append("`" + body.replace("|", "\\|") + "`")
+    return "; ".join(out)
+
+
 def fields_of(kind):
     """The fields of a struct of the tree."""
     for path in STRUCTS.get(kind, []):
@@ -99,7 +133,11 @@ def fixed_by(f, what):
         shape = shape_of(what, name)
         for c in (c for c in conjuncts if re.search(shape, c)):
             spoken = True
-            laws += [w for w in LAWS if re.search(rf"(?<![\w-]){w}(?![\w-])", c) and source(*LAWS[w])]
+            for law in (w for w in LAWS if re.search(rf"(?<![\w-]){w}(?![\w-])", c) and source(*LAWS[w])):
+                laws.append(law)
+                if law == "Does":  # what the operation is must itself be fixed: all of it but the words and marks that it leaves
+                    told = " ".join(a for a in arguments(c) if not re.fullmatch(r"\(now \(\S+ \.exit\)\)", a))
+                    rests |= {w for w in others if (w or name != "_") and re.search(shape_of(w, name), told)}
             both = sides(c)
             for side, other in (both, both[::-1]) if both else ():
                 side = side[1:-1] if side.startswith("(") and side.endswith(")") else side
@@ -116,7 +154,7 @@ def fixed_by(f, what):
     if fields and fields >= fields_of(f.result):
         return EQUATION, rests
     if laws and laws[0] not in ("Tidy", "Kept"):
-        return laws[0], set()
+        return laws[0], rests if laws[0] == "Does" else set()
     # the state that words and marks hold is said whole, and that nothing stands beside it
     beside = next((w for w in ("Tidy", "Kept") for c in f.says if re.search(rf"(?<![\w-]){w}(?![\w-])", c) and source(*LAWS[w])), None)
     if state and beside:
@@ -125,11 +163,11 @@ def fixed_by(f, what):
 
 
 def fixed(f):
-    """By what each thing is fixed. An equation that rests on what is not fixed, or on itself by way of another, fixes nothing."""
+    """By what each thing is fixed. What rests on a thing that is not fixed, or on itself by way of another, fixes nothing."""
     by = {what: fixed_by(f, what) for what in ([""] if f.result else []) + f.lent()}
-    sure = {what for what, (how, rests) in by.items() if how not in (EQUATION, "open", "unsaid")}
+    sure = set()
     while True:
-        more = {what for what, (how, rests) in by.items() if how == EQUATION and what not in sure and rests <= sure}
+        more = {what for what, (how, rests) in by.items() if how not in ("open", "unsaid") and what not in sure and rests <= sure}
         if not more:
             break
         sure |= more
@@ -194,8 +232,6 @@ for crate in FILES:
                 complain(f"{f.path}: {f.where} does not say {', '.join(unsaid)}")
             elif loose:
                 complain(f"{f.path}: {f.where} leaves open {', '.join(loose)}")
-        words = sorted(set(re.findall(r"(?<![.\w-])([A-Za-z][\w′]*[A-Z]\w*|[A-Z]\w+|[a-z]+[A-Z]\w*)", " ".join(f.says))))
-        said = ", ".join(f"`{w}`" for w in words) if words else "an equation" if EQUATION in by.values() else "a bound only" if f.says else "nothing"
         laws = []
         for law in {b for b in by.values() if b in LAWS}:
             name = LAWS[law][1]
@@ -203,26 +239,30 @@ for crate in FILES:
             laws.append(f"`{name}`" + (" where the workspace lent is tidy; of another, what stands beside the state is open" if kept else ""))
         reason = OUTSIDE.get(f.where) or LESS.get(f.where) or (f.where in OPEN and "open: " + OPEN[f.where]) or ""
         unique = "; ".join((["equation"] if EQUATION in by.values() else []) + sorted(laws) + ([reason] if reason else []))
-        rows.append(f"| `{f.where}` | `{f.path[len('crates/'):]}` | {len(f.asks) or ''} | {len(f.says) or ''} | {said} | {unique} |")
+        rows.append(f"| `{f.where}` | [`{f.path[len('crates/'):]}`](../{f.path}) | {len(f.asks) or ''} | {stated(f) or 'nothing'} | {unique} |")
 for name in sorted((set(OUTSIDE) | set(LESS) | set(OPEN)) - met):
     complain(f"tests/functions.py: there is no function {name}")
 
 page = """# Every public function
 
 Made by `tests/functions.py` from the sources: of each public function of a crate, the file in which its contract stands over its body, how much
-it asks of its caller (`requires`), how many statements it makes of its result and of everything lent (`ensures`), the definitions that they cite,
-and by what two results that meet them are equal. The functions that other programs call, `raptor` and `kiosk_c`, ask for nothing, but for the forms
-named `_checked`, which ask for tables that were checked.
+it asks of its caller (`requires`), what it states of its result and of everything lent (`ensures`), and by what two results that meet that are equal.
+The functions that other programs call, `raptor` and `kiosk_c`, ask for nothing, but for the forms named `_checked`, which ask for tables that were
+checked.
+
+What is stated is the contract's own text. Only three things are written shorter: a slice is called by its name as it comes (`words` for
+`now (words .entry)`) and with ′ as it is left (`words′` for `now (words .exit)`), and what is given back is the `result`. The definitions named stand in
+`crates/NAME/specs`; those that the promises rest on are copied in [STATEMENTS.md](STATEMENTS.md).
 
 The last column: *equation*, where the result and each slice that may be written is said to be equal to something; then two results are equal at once.
 `same-words` (`allocator/proofs/Same.antt`), where it says the state that words and marks hold and that they are tidy (nothing stands beside that
-state): two tidy workspaces of one state are equal word for word. `solved-unique`, `ran-unique` (`raptor/proofs/Unique.antt`), `faced-unique`
-(`kiosk_c/proofs/Unique.antt`) and `asked-unique` (`asking/proofs/Unique.antt`), where it is the record `Solved`, `Ran`, `Faced` or `Tells`. What prints
-or reads, states less, or is left open stands there with the reason; `tests/functions.py` has the lists, function by function, and refuses a name that
-stands there without need.
+state), or the record `Does`, which says both: two tidy workspaces of one state are equal word for word. `solved-unique`, `ran-unique`
+(`raptor/proofs/Unique.antt`), `faced-unique` (`kiosk_c/proofs/Unique.antt`) and `asked-unique` (`asking/proofs/Unique.antt`), where it is the record
+`Solved`, `Ran`, `Faced` or `Tells`. What prints or reads, states less, or is left open stands there with the reason; `tests/functions.py` has the lists,
+function by function, and refuses a name that stands there without need.
 
-| function | where | asks | states | by | unique by |
-|---|---|---|---|---|---|
+| function | where | asks | states | unique by |
+|---|---|---|---|---|
 """ + "\n".join(rows) + "\n"
 if sys.argv[1:] == ["check"]:
     if text_of("docs/FUNCTIONS.md") != page:

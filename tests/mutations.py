@@ -213,6 +213,8 @@ MUTATIONS = [
     ("an exception that is said to print and does not", listed("OUTSIDE", "shared::time_to_walk", "prints"), True, FUNCTIONS, "nothing that it calls does"),
     ("an exception that is no function", listed("OPEN", "shared::time_to_fly", "open"), True, FUNCTIONS, "there is no function shared::time_to_fly"),
     ("the page of functions changed by hand", lambda: sub("docs/FUNCTIONS.md", "| equation |", "| equations |"), False, FUNCTIONS, "is not what tests/functions.py writes"),
+    ("a statement changed, and the page of functions not", checked_says("r ≡ checkOf []"), False, FUNCTIONS, "is not what tests/functions.py writes"),
+    ("a parameter called as the page calls what is given back", added(LIB, "pub fn more(result: u32) -> u32\n    ensures { λ r. ⌜ r ≡ result ⌝ }\n{\n    result\n}\n"), True, FUNCTIONS, "allocator::more calls a parameter `result`"),
     ("what two rows cite exchanged", lambda: exchange("1.4", "1.7", 2), True, PROMISES, "row 1.4 does not have"),
     ("what two rows of one file cite exchanged", lambda: exchange("3.1", "3.2", 2), True, PROMISES, "row 3.2 does not have"),
     ("what two parts cite exchanged", lambda: exchange("8.3", "8.4", 2), True, PROMISES, "row 8.3 does not have"),
