@@ -120,7 +120,7 @@ def counted(statements):
         counts = [lines(f) for f in own]
         total, defines = sum(c[0] for c in counts), sum(c[1] for c in counts)
         all_lines, all_own = all_lines + total, all_own + defines
-        listed = ", ".join(os.path.basename(f)[:-5] for f in own)
+        listed = ", ".join(f"[{os.path.basename(f)[:-5]}](../crates/{f})" for f in own)
         rows.append(f"| `crates/{crate}/specs` | {listed} | {total:,} | {defines:,} | {SAYS.get(crate, '?')} |")
     rows.append(f"| together | {len([f for f in files if isinstance(f, str) and '/specs/' in f])} files | {all_lines:,} | {all_own:,} | |")
     head = "| folder | files | lines | that define | what it says |\n|---|---|---|---|---|\n"

@@ -247,7 +247,7 @@ page = """# Every public function
 
 Made by `tests/functions.py` from the sources: of each public function of a crate, the file in which its contract stands over its body, how much
 it asks of its caller (`requires`), what it states of its result and of everything lent (`ensures`), and by what two results that meet that are equal.
-The functions that other programs call, `raptor` and `kiosk_c`, ask for nothing, but for the forms named `_checked`, which ask for tables that were
+[README.md](../README.md) leads to the other pages. The functions that other programs call, `raptor` and `kiosk_c`, ask for nothing, but for the forms named `_checked`, which ask for tables that were
 checked.
 
 What is stated is the contract's own text. Only three things are written shorter: a slice is called by its name as it comes (`words` for

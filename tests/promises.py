@@ -79,7 +79,7 @@ def relinked(cell):
         token = m.group(1) or m.group(3)
         if is_path(token):
             path = shown = token
-            out += f"`{token}`"
+            out += f"[`{token}`]({os.path.relpath(token, os.path.dirname(PAGE))})" if token.endswith(".md") else f"`{token}`"
             continue
         own = path
         if path and path.endswith(".antt") and not source(path, token) and moved(path, token):
