@@ -6,6 +6,8 @@ import concurrent.futures, glob, os, re, shutil, subprocess, sys, tempfile
 HERE = os.path.abspath(os.path.join(os.path.dirname(os.path.abspath(__file__)), ".."))
 PAGE, COPIES, LIST, LISTS, LETTER = "docs/PROMISES.md", "docs/STATEMENTS.md", "tests/sentences.txt", "tests/functions.py", "docs/LETTER.md"
 PROMISES, FUNCTIONS, SIGNED = ["tests/promises.py"], ["tests/functions.py", "check"], ["tools/letter.py", "check"]
+RULES, LAYOUT = ["tests/house.py"], ["tests/tables.py"]
+TABLES, SECTIONS, LIMITS = "docs/TABLES.md", "crates/repository/specs/Sections.antt", "crates/model/specs/Limits.antt"
 WORKERS = 2
 room, touched = None, {}
 
@@ -194,6 +196,11 @@ def believed_unlisted():
     sub(file, "\nuse ", "\nuse Rattle.repository.specs.Rows.{word}\nuse ")
 
 
+def first_line_gone():
+    file = "crates/journey/specs/Parts.antt"
+    write(file, read(file).split("\n", 1)[1])
+
+
 # what is done; whether the pages are made anew after it; the test that must complain; what it must say
 MUTATIONS = [
     ("a public function that returns a slice and states nothing", added(LIB, "pub fn part(words: &[u32]) -> &[u32] {\n    words\n}\n"), True, FUNCTIONS, "allocator::part states nothing"),
@@ -256,6 +263,44 @@ MUTATIONS = [
     ("a letter with another count of what must be read", lambda: write(LETTER, re.sub(r"\d+ files, ", "9 files, ", read(LETTER))), True, SIGNED, "our definitions are"),
     ("a letter with a word of ours", lambda: sub(LETTER, "## Left out\n", "## Left out\n\nThe buffer.\n"), True, SIGNED, "a word that it does not explain: buffer"),
     ("a letter with a number that nobody counted", lambda: sub(LETTER, "2,156,976", "2,156,979"), True, SIGNED, "a number that docs/DIFFERENCES.md does not have"),
+    ("a section under another number", lambda: sub(TABLES, "| 5 | `CALLS` |", "| 5 | `SERVED` |"), False, LAYOUT, "section 5 is CALLS, not SERVED"),
+    ("a section renamed, and its page not", lambda: sub(SECTIONS, "abbrev pub SERVED : ℕ\nSERVED =", "abbrev pub PASSED : ℕ\nPASSED ="), False, LAYOUT, "section 6 is PASSED, not SERVED"),
+    ("a row one word wider, and its page not", lambda: sub(SECTIONS, "TRANSFER-WORDS = 4", "TRANSFER-WORDS = 5"), False, LAYOUT, "TRANSFERS has `rows of 5` words"),
+    ("a row of which a word is not told", lambda: sub(TABLES, "the stop that it leaves, the stop that it leads to, its stated span or MAX, its metres", "the stop that it leads to, its stated span or MAX, its metres"), False, LAYOUT, "a row of TRANSFERS has 4 words, and 3 are named"),
+    ("a section more, and its page not", lambda: (sub(SECTIONS, "SECTIONS = 19", "SECTIONS = 20"), sub(SECTIONS, "HEADER = 20", "HEADER = 21")), False, LAYOUT, "it does not list 20 sections"),
+    ("a header that is too long for its sections", lambda: sub(SECTIONS, "HEADER = 20", "HEADER = 21"), False, LAYOUT, "a header of 21 words does not say"),
+    ("a section of another length", lambda: sub(TABLES, "| `SERVED` | S |", "| `SERVED` | S + 1 |"), False, LAYOUT, "SERVED has `S` words"),
+    ("the starts of another list", lambda: sub(TABLES, "starts of `CHILDREN`, by stop", "starts of `CHILDREN`, by route"), False, LAYOUT, "CHILD-STARTS has the starts of CHILDREN, by stop"),
+    ("a section with another number in code", lambda: sub("crates/repository/src/sections.rt", "pub const WALKS: usize = 10;", "pub const WALKS: usize = 11;"), False, LAYOUT, "WALKS is 10 in"),
+    ("a section's number in code", added("crates/repository/src/calls.rt", "fn more(tables: &[u32]) -> u32 {\n    word(tables, 7, 0)\n}\n"), False, LAYOUT, "a section by its number: word(tables, 7"),
+    ("a section's number in a proof", added("crates/repository/proofs/Stops.antt", "more : (w : List ℕ) → sec w 7 0 ≡ sec w 7 0\nmore w = refl\n"), False, LAYOUT, "a section by its number: sec w 7"),
+    ("a limit raised, and its page not", lambda: sub(LIMITS, "MOST-TRIPS = 16_384", "MOST-TRIPS = 16_448"), False, LAYOUT, "MOST-TRIPS is 16448 in"),
+    ("a limit that the page leaves out", added(LIMITS, "abbrev pub MOST-TRAMS : ℕ\nMOST-TRAMS = 7\n"), False, LAYOUT, "MOST-TRAMS is 7 in"),
+    ("a limit of the tool raised alone", lambda: sub("tools/timetable.py", "16384, 262144,", "16448, 262144,"), False, LAYOUT, "TRIPS is 16448, and MOST-TRIPS"),
+    ("a rule that the page leaves out", lambda: sub("crates/repository/specs/Listed.antt", "&& areasListed w", "&& areasListed w && more w"), False, LAYOUT, "its rules are not the tests of the check: [(2, 'more')]"),
+    ("a rule under another number", lambda: sub(TABLES, "| 4 | \"At each", "| 3 | \"At each"), False, LAYOUT, "its rules are not the tests of the check"),
+    ("a rule in words that nobody wrote", lambda: sub(TABLES, "equality is allowed.", "equality is refused."), False, LAYOUT, "the definitions do not quote"),
+    ("a word of N changed", lambda: sub(TABLES, "| 2 3 30 0 |", "| 2 3 31 0 |"), False, LAYOUT, "N's words are not what tools/timetable.py makes"),
+    ("a word of N changed in the program", lambda: sub("crates/kiosk/src/network.rt", "    30,\n    0,\n", "    31,\n    0,\n"), False, LAYOUT, "network.rt: its words of N are not those of the page"),
+    ("a place of N's words changed", lambda: sub(TABLES, "| 57 to 61 |", "| 57 to 62 |"), False, LAYOUT, "the words of SERVED are 57 to 61"),
+    ("a law among the definitions", added("crates/model/specs/Spans.antt", "pub more : 0 ≡ 0\nmore = refl\n"), False, RULES, "more is a law or a text that stays shut"),
+    ("a private law among the definitions", added("crates/model/specs/Spans.antt", "more : 0 ≡ 0\nmore = refl\n"), False, RULES, "more is a law or a text that stays shut"),
+    ("a definition that cites a proof", lambda: sub("crates/model/specs/Spans.antt", "\nuse ", "\nuse Rattle.model.proofs.Better.{better-strict}\nuse "), False, RULES, "a definition cites a proof: Rattle.model.proofs.Better"),
+    ("a contract that cites a proof", lambda: sub("crates/marks/src/lib.rt", "\nghost use ", "\nghost use Rattle.marks.proofs.Laws.{none-left};\nghost use "), False, RULES, "a contract cites a proof: Rattle.marks.proofs.Laws"),
+    ("a wide line of code", added("crates/marks/src/lib.rt", "// " + "wide " * 30 + "\n"), False, RULES, "characters, and 140 are the most"),
+    ("a function of eight parameters", added("crates/marks/src/lib.rt", "fn more(a: u8, b: u8, c: u8, d: u8, e: u8, f: u8, g: u8, h: u8) {}\n"), False, RULES, "marks::more takes 8 parameters"),
+    ("a file that does not say its subject", first_line_gone, False, RULES, "crates/journey/specs/Parts.antt: its first line does not say"),
+    ("a script that does not say its subject", lambda: write("tests/more.py", "import os\n"), False, RULES, "tests/more.py: its first line does not say"),
+    ("a name that two definitions have", added("crates/journey/specs/Put.antt", "unfoldable pub legSize : ℕ → ℕ\nlegSize n = n\n"), False, RULES, "both define legSize"),
+    ("a law that nobody cites", added("crates/marks/proofs/Laws.antt", "pub no-one-asks : 0 ≡ 0\nno-one-asks = refl\n"), False, RULES, "nothing reaches no-one-asks"),
+    ("two laws that cite only each other", added("crates/marks/proofs/Laws.antt", "island : 0 ≡ 0\nisland = strand\n\nstrand : 0 ≡ 0\nstrand = island\n"), False, RULES, "nothing reaches strand"),
+    ("a definition that nobody cites", added("crates/marks/specs/Marks.antt", "unfoldable pub idleMark : ℕ → ℕ\nidleMark n = n\n"), False, RULES, "nothing reaches idleMark"),
+    ("a page that is not there", lambda: sub("docs/TABLES.md", "](PROMISES.md)", "](PROMISED.md)"), False, RULES, "a link leads nowhere: PROMISED.md"),
+    ("a place of a page that is not there", lambda: sub("docs/TABLES.md", "](DECISIONS.md#the-tables)", "](DECISIONS.md#the-chairs)"), False, RULES, "a link leads to no place of docs/DECISIONS.md"),
+    ("a page that is named and not linked", lambda: write("docs/TABLES.md", read("docs/TABLES.md") + "\nSee BENCHMARKS.md.\n"), False, RULES, "BENCHMARKS.md is named and not linked"),
+    ("a page that README does not lead to", lambda: write("docs/MORE.md", "# More\n\n[README.md](../README.md)\n"), False, RULES, "it does not lead to docs/MORE.md"),
+    ("a crate that the drawing has not", lambda: sub("crates.txt", "\nmarks: base\n", "\nmarks: base\nmore: marks\n"), False, RULES, "its drawing is not crates.txt"),
+    ("a crate on another floor", lambda: sub("crates.txt", "\nmarks: base\n", "\nmarks: base shared\n"), False, RULES, "its drawing is not crates.txt"),
     ("a letter of two pages", lambda: write(LETTER, read(LETTER) + "\nMore.\n" * 30), True, SIGNED, "it is longer than a page"),
 ]
 
