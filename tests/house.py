@@ -12,8 +12,19 @@ WIDEST, MOST = 140, 7
 DECISIONS, PROVING = "docs/DECISIONS.md", "docs/PROVING.md"
 # Laws, and no definitions that a contract cites: the one folder of that name that may hold proofs.
 LAWS = "crates/base/specs/"
-# A name that more than one crate's definitions have, and why it may be.
-TWICE = {}
+# A name that the definitions of these crates share, and why they may. Any other crate's is refused all the same.
+ASKED = "what is asked, as each kind of input says it: the words of the C face, a line of a list, an argument; no file cites two of them"
+TEXT = "of `lines`, which reads a program's input and knows no search; no file cites both"
+TWICE = {
+    "modeOf": ("asking kiosk_words", ASKED),
+    "walksOf": ("asking kiosk_words", ASKED),
+    "momentOf": ("arguments asking model", ASKED),
+    "placeOf": ("arguments asking kiosk_words", ASKED),
+    "begun": ("lines model", TEXT),
+    "between": ("asking lines", TEXT),
+    "opened": ("lines model", TEXT),
+    "stored": ("allocator lines", TEXT),
+}
 # A law or a definition that nothing reaches, and why it stays.
 ALONE = {}
 NAME = r"[^\s(){}⌜⌝«»,;:\[\]λ.]+"
@@ -133,10 +144,14 @@ for path in files("crates/*/specs/**/*.antt"):
     for one in declared(path)[0]:
         if one.public:
             where.setdefault(one.name, []).append(path)
-for name in sorted(n for n, paths in where.items() if len(paths) > 1 and n not in TWICE):
-    complain(" and ".join(where[name]), f"both define {name}")
-for name in sorted(n for n in TWICE if len(where.get(n, [])) < 2):
-    complain("tests/house.py", f"{name} is not defined twice: take it off the list")
+for name, paths in sorted(where.items()):
+    sharing = TWICE.get(name, ("", ""))[0].split()
+    others = [p for p in paths if p.split("/")[1] not in sharing]
+    if len(others) + (len(others) < len(paths)) > 1:
+        complain(" and ".join(paths), f"both define {name}")
+for name, (sharing, why) in TWICE.items():
+    if not set(sharing.split()) <= {p.split("/")[1] for p in where.get(name, [])}:
+        complain("tests/house.py", f"{name} is not shared by {sharing}: take that off the list")
 
 # ==== no law and no definition that nothing reaches: from what the prover asks of each function, from contracts and from pages
 def tokens(text):
