@@ -36,7 +36,7 @@ extern "C" {
 #endif
 
 /* Raised by one whenever the tables' layout changes, or a function, a number, a word or a leg's bytes come to mean something else; a function
-   more leaves it. Tables do not say for which version they were written: who keeps them in a file keeps this number beside them. */
+   more leaves it. Tables say their own layout, by their first word (docs/TABLES.md): those of another are answered with KIOSK_BAD_COUNT. */
 #define KIOSK_VERSION 1
 
 /* No journey takes more bytes (theorem `length-most` of crates/raptor/proofs/Promises.antt), so a buffer of so many is never answered with
