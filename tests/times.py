@@ -20,6 +20,7 @@ page = f"""# Check times
 
 The seconds that `rt ci` gave for each crate on {os.cpu_count()} cores ({machine}), two crates side by side. A must-fail edit costs its crate's whole check again:
 the {len(edits)} edits take {all_edits // 60} minutes of one core, the {len(rows)} crates {sum(proved.values()) // 60}. `tests/times.py LOG` makes this page from what `./test` said.
+[README.md](../README.md) leads to the other pages; [BENCHMARKS.md](BENCHMARKS.md) has the times of the search itself.
 
 | crate | seconds | must-fail edits | seconds of them all |
 |---|---|---|---|
