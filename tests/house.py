@@ -131,7 +131,7 @@ for name in sorted(n for n in named if re.fullmatch(r"\w+(::\w+)+", n) and n.spl
 
 # ==== each file says its subject first
 tracked = files("crates/*/src/**/*.rt") + files("crates/*/specs/**/*.antt") + files("crates/*/proofs/**/*.antt")
-scripts = [p for folder in ("tests", "tools", "bench", "rust", "oracle") for end in ("py", "sh", "c", "h", "rs") for p in files(f"{folder}/**/*.{end}")]
+scripts = [p for folder in ("tests", "tools", "compare", "bench", "plain", "rust", "oracle") for end in ("py", "sh", "c", "h", "rs") for p in files(f"{folder}/**/*.{end}")]
 for path in tracked + ["test", "kiosk"] + [p for p in scripts if "/target/" not in p and "/shims/" not in p]:
     lines = text_of(path).split("\n")
     first = lines[1] if lines[0].startswith("#!/") and len(lines) > 1 else lines[0]
@@ -237,7 +237,7 @@ def anchors(path):
 
 
 linked = {}
-pages = ["README.md"] + files("docs/*.md") + files("rust/*.md") + files("oracle/*.md") + files("bench/**/*.md")
+pages = ["README.md"] + files("docs/*.md") + files("rust/*.md") + files("oracle/*.md") + files("compare/*.md") + files("bench/*.md")
 for path in pages:
     text = re.sub(r"^```.*?^```$", "", text_of(path), flags=re.M | re.S)
     for link in re.findall(r"\]\(([^)\s]+)\)", text):
