@@ -95,12 +95,29 @@ def declared(path):
     return found, heads
 
 
+def proves(one):
+    """Whether what is declared as a definition gives a proof: the end of its type is an equation or an order of numbers."""
+    head = "\n".join(one.own)
+    kind = head[head.index(" :") + 2 :] if " :" in head else ""
+    kind = re.split(rf"\n *(?:unfolding |{re.escape(one.name)}(?= ))", kind)[0]
+    depth, last = 0, 0
+    for at, c in enumerate(kind):
+        depth += (c in "({") - (c in ")}")
+        if c == "→" and depth == 0:
+            last = at + 1
+    depth, end = 0, ""
+    for c in kind[last:]:
+        depth += (c in "({") - (c in ")}")
+        end += c if depth == 0 else ""
+    return one.kind in ("abbrev", "unfoldable") and re.search(r"[≡≤<≢⊎×]", end)
+
+
 # ==== specs hold definitions and cite no proofs; a contract cites none either
 for path in files("crates/*/specs/**/*.antt"):
     if path.startswith(LAWS):
         continue
     for one in declared(path)[0]:
-        if one.kind == "law":
+        if one.kind == "law" or proves(one):
             complain(f"{path}, line {one.line}", f"{one.name} is a law or a text that stays shut: definitions are records, data, `abbrev` or `unfoldable`")
     for module in re.findall(r"^\s*(?:pub )?use (\S+?\.proofs\.\S+)", text_of(path), re.M):
         complain(path, f"a definition cites a proof: {module}")

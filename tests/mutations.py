@@ -285,6 +285,7 @@ MUTATIONS = [
     ("a place of N's words changed", lambda: sub(TABLES, "| 57 to 61 |", "| 57 to 62 |"), False, LAYOUT, "the words of SERVED are 57 to 61"),
     ("a law among the definitions", added("crates/model/specs/Spans.antt", "pub more : 0 ≡ 0\nmore = refl\n"), False, RULES, "more is a law or a text that stays shut"),
     ("a private law among the definitions", added("crates/model/specs/Spans.antt", "more : 0 ≡ 0\nmore = refl\n"), False, RULES, "more is a law or a text that stays shut"),
+    ("a proof that is called a definition", added("crates/model/specs/Spans.antt", "unfoldable pub more : (n : ℕ) → n ≡ n\nmore n = refl\n"), False, RULES, "more is a law or a text that stays shut"),
     ("a definition that cites a proof", lambda: sub("crates/model/specs/Spans.antt", "\nuse ", "\nuse Rattle.model.proofs.Better.{better-strict}\nuse "), False, RULES, "a definition cites a proof: Rattle.model.proofs.Better"),
     ("a contract that cites a proof", lambda: sub("crates/marks/src/lib.rt", "\nghost use ", "\nghost use Rattle.marks.proofs.Laws.{none-left};\nghost use "), False, RULES, "a contract cites a proof: Rattle.marks.proofs.Laws"),
     ("a wide line of code", added("crates/marks/src/lib.rt", "// " + "wide " * 30 + "\n"), False, RULES, "characters, and 140 are the most"),
