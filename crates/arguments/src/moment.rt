@@ -1,11 +1,12 @@
-// A moment that a person writes, as seconds or H:MM:SS, and one that a clock shows. Where a timetable counts from another midnight than 0, its
-// seconds are added to what is asked and taken off what is shown.
+// A moment that a person writes, as seconds or H:MM:SS, and one that a clock shows. Where a timetable counts from another midnight than 0,
+// its seconds are added to what is asked and taken off what is shown.
 use super::bytes;
 use super::bytes::Number;
 ghost use mathlib.Core.Path.{_≡_};
 ghost use mathlib.Core.Bool.{true};
 ghost use Prim.Native.Nat.{_+_};
-ghost use Rattle.arguments.specs.Moment.{fits, sumOf, onHours, withSeconds, ofClock, ofSeconds, hasClockForm, momentOf, face as faceOf, clockOf};
+ghost use Rattle.arguments.specs.Moment.{fits, sumOf, onHours, withSeconds, ofClock, ofSeconds, hasClockForm, momentOf};
+ghost use Rattle.arguments.specs.Moment.{face as faceOf, clockOf};
 
 // A moment, or why there is none.
 pub enum Moment {

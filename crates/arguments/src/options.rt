@@ -2,7 +2,8 @@
 use super::bytes;
 use super::bytes::Number;
 ghost use mathlib.Core.Path.{_≡_};
-ghost use Rattle.arguments.specs.Options.{unsaid, walksSaid, modeSaid, tablesSaid, midnightSaid, saidOf, withWalks, withMode, withTables, withMidnight, withSaid};
+ghost use Rattle.arguments.specs.Options.{unsaid, walksSaid, modeSaid, tablesSaid, midnightSaid, saidOf};
+ghost use Rattle.arguments.specs.Options.{withWalks, withMode, withTables, withMidnight, withSaid};
 
 // What is said so far.
 pub struct Options {

@@ -42,7 +42,8 @@ pub fn get_departure_time(tables: &[u32], v: u32, p: u32) -> Time
     repository::times::departure_in(tables, row, p)
 }
 
-// Whether the trip at place i of a route arrives at position p not before x. (That x is wider than a label lets it be the second after any.)
+// Whether the trip at place i of a route arrives at position p not before x. (That x is wider than a label lets it be the second after
+// any.)
 fn is_not_before(tables: &[u32], r: u32, p: u32, x: usize, i: u32) -> bool
     requires { ⌜ Along (now tables) r p ⌝ }
     requires { ⌜ i < netOf (now tables) .trips r ⌝ }
@@ -53,8 +54,8 @@ fn is_not_before(tables: &[u32], r: u32, p: u32, x: usize, i: u32) -> bool
     x <= a.0 as usize
 }
 
-// The place of the first trip of a route that arrives at position p not before x: it is not before `from`, nor after `to`. By halving twice in a
-// step: the three times are read side by side, where halving once would wait for each before it asks for the next.
+// The place of the first trip of a route that arrives at position p not before x: it is not before `from`, nor after `to`. By halving twice
+// in a step: the three times are read side by side, where halving once would wait for each before it asks for the next.
 fn first_between(tables: &[u32], r: u32, p: u32, x: usize, from: u32, to: u32) -> u32
     requires { ⌜ Along (now tables) r p ⌝ }
     requires { ⌜ Bracket (notBefore (netOf (now tables)) r p x) (netOf (now tables) .trips r) from to ⌝ }
@@ -132,8 +133,8 @@ fn first_up(tables: &[u32], r: u32, p: u32, x: usize, from: u32, to: u32) -> u32
     first_between(tables, r, p, x, lo, to)
 }
 
-// That place, looked for around `near` first, which may be any number. Along a route it is nearly always that of the trip aboard or one beside
-// it; only elsewhere the halving is paid for, in which each step waits for the one before.
+// That place, looked for around `near` first, which may be any number. Along a route it is nearly always that of the trip aboard or one
+// beside it; only elsewhere the halving is paid for, in which each step waits for the one before.
 fn first_near(tables: &[u32], r: u32, p: u32, x: usize, near: usize) -> u32
     requires { ⌜ Along (now tables) r p ⌝ }
     ensures { λ i. ⌜ i ≡ firstNotBefore (netOf (now (tables .entry))) r p x ⌝ }
@@ -165,8 +166,8 @@ pub fn find_earliest_trip(tables: &[u32], r: u32, p: u32, label: Time, near: u32
     Trip::Nothing
 }
 
-// The last trip of a route that arrives at position p not after the label, which is a moment: it stands before the first that arrives a second
-// later or more. The trip at place `near` is looked at first.
+// The last trip of a route that arrives at position p not after the label, which is a moment: it stands before the first that arrives a
+// second later or more. The trip at place `near` is looked at first.
 pub fn find_latest_trip(tables: &[u32], r: u32, p: u32, label: Time, near: u32) -> Trip
     requires { ⌜ Accepted (now tables) ⌝ }
     requires { ⌜ r < netOf (now tables) .routes ⌝ }
