@@ -1,7 +1,7 @@
-// A query `p fromkind from tokind to d|a moment walks mode buffer fault`, and all that `solve` answers and leaves. Walks 0 not, 1 allowed, 2
-// unsaid; mode `s` or `r`; the bytes of the journey buffer, at most 4,096; fault 0 for a workspace of the right lengths, 1, 2, 3 for words,
-// marks, places that are one short. Before each query every slice is filled with sevens. Printed: number, time, stop, round, length; then
-// words, marks, places and journey, as `untouched` or by a digest of their contents.
+// A query `p fromkind from tokind to d|a moment walks mode buffer fault`, and all that `solve` answers and leaves. Walks 0 not, 1 allowed,
+// 2 unsaid; mode `s` or `r`; the bytes of the journey buffer, at most 4,096; fault 0 for a workspace of the right lengths, 1, 2, 3 for
+// words, marks, places that are one short. Before each query every slice is filled with sevens. Printed: number, time, stop, round, length;
+// then words, marks, places and journey, as `untouched` or by a digest of their contents.
 ghost use Prim.Native.Nat.{_≤_};
 use asking::Asked;
 use model::Answer;
