@@ -15,7 +15,7 @@ use Rattle.model.specs.State.{Task}
 use Rattle.model.specs.Round.{Order, Fair}
 use Rattle.model.specs.Search.{search}
 use Rattle.model.specs.Back.{near, trace, inOrder, journey}
-use Rattle.model.specs.Journey.{Ridden, Walked, Timed, Chain, stay, ride-on, walk-on, Dated}
+use Rattle.model.specs.Journey.{Ridden, Walked, MeetsTrip, Chain, stay, ride-on, walk-on, Dated}
 use Rattle.model.specs.Sound.{Sound, Narrow, Asked}
 use Rattle.model.proofs.Reversed.{order-each}
 use Rattle.model.proofs.Trail.{far, nearAt, farAt, Goes, Trail, begin, rode, went, trail-in}
@@ -40,7 +40,7 @@ module _ (n : Net) (ok : Sound n) where
       }
 
   -- a footpath starts within the timetable
-  pub timed-bounds : (d : Direction) (g : Leg) → Timed d n g → (0 < nearAt d g) × (nearAt d g ≤ LAST-MOMENT)
+  pub timed-bounds : (d : Direction) (g : Leg) → MeetsTrip d n g → (0 < nearAt d g) × (nearAt d g ≤ LAST-MOMENT)
   timed-bounds Departure g c =
       let one = ok .from-one (c .route) (c .place) (c .position) (c .routes) (c .trips) (c .within) in
       let stays = ok .stays (c .route) (c .place) (c .position) (c .routes) (c .trips) (c .within) in
@@ -53,7 +53,7 @@ module _ (n : Net) (ok : Sound n) where
       rw (c .moment) (omega (arith, one, stays), top)
 
   module _ (narrow : Narrow n) where
-    foot-dated : (d : Direction) (walking : Bool) (g : Leg) → Walked n walking (near d g) (far d g) g → near d g < n .stops → Timed d n g
+    foot-dated : (d : Direction) (walking : Bool) (g : Leg) → Walked n walking (near d g) (far d g) g → near d g < n .stops → MeetsTrip d n g
         → (d ≡ Arrival → 0 < farAt d g) → Dated g
     foot-dated Departure walking g w i c p =
         let b = timed-bounds Departure g c in
@@ -80,7 +80,7 @@ module _ (n : Net) (ok : Sound n) where
         let f = o .onward in
         cons o (chain-dated d v (rw (w .leads) (ok .feet-in (g .kind) (g .from) (w .foot) here (w .listed))) (omega arith) c)
       where
-        step : (d : Direction) → g .from < n .stops → Timed d n g → Dated g
+        step : (d : Direction) → g .from < n .stops → MeetsTrip d n g → Dated g
         step Departure j t = foot-dated Departure v g w j t (λ e. let z : _≡_ {A = ℕ} 0 1 = cc in absurd (omega arith))
         step Arrival j t =
             let b = timed-bounds Arrival g t in

@@ -63,7 +63,7 @@ use Rattle.model.specs.Moments.{MAX}
 use Rattle.model.specs.Spans.{transferSpan, walkSpan}
 use Rattle.shared.specs.Walk.{walkingSpan}
 use Rattle.model.specs.State.{Labels, Times}
-use Rattle.model.specs.Bytes.{write, read, readFrom, firstLeg, uncut, legIn, legAt, u32At, before}
+use Rattle.model.specs.Bytes.{write, read, readFrom, firstLeg, uncut, legOfBody, legAt, u32At, before}
 use Rattle.model.specs.Answer.{Given, given, givenRead, answer, searched, legsOf}
 use Rattle.model.specs.Left.{Workspace, placed, workspaceOf, written, journeyLeft}
 use Rattle.model.proofs.Examples.{N, M, ask, departing, arriving, says, found, refused}
@@ -357,5 +357,5 @@ pub worked :
       goals = 0 ∷ [];
     }
     ∷ [])
-unfolding says departing arriving leaving coming found refused unread N M X1 X2 X3 X3′ line X5 X6 X7 X8a X8b X9a X9b X10 X11 X12 X17 X18 X19 X21 X22 X23 P C D W T U Y Z K L F O ride transfer walk walkSpans transferSpan placed workspaceOf written journeyLeft givenRead read readFrom firstLeg uncut legIn legAt u32At before
+unfolding says departing arriving leaving coming found refused unread N M X1 X2 X3 X3′ line X5 X6 X7 X8a X8b X9a X9b X10 X11 X12 X17 X18 X19 X21 X22 X23 P C D W T U Y Z K L F O ride transfer walk walkSpans transferSpan placed workspaceOf written journeyLeft givenRead read readFrom firstLeg uncut legOfBody legAt u32At before
 worked = (refl, refl, refl, refl, refl)
