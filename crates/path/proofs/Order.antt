@@ -14,7 +14,7 @@ use Rattle.model.specs.Back.{inOrder}
 use Rattle.model.specs.Bytes.{writeLeg, write, legSize, sizeOf}
 use Rattle.model.proofs.ReadBack.{leg-length, size-is}
 use Rattle.model.proofs.Reversed.{reverse-size}
-use Rattle.journey.specs.Put.{put}
+use Rattle.journey.specs.Put.{withBytes}
 use Rattle.journey.proofs.Put.{put-length, put-first, put-next}
 
 write-last : (gs : List Leg) (g : Leg) → write (gs ++ g ∷ []) ≡ write gs ++ writeLeg g
@@ -37,10 +37,10 @@ order-none Arrival = refl
 pub record Left (d : Direction) (g : Leg) (gs : List Leg) (b : List ℕ) (a : ℕ) (y : List ℕ) (a′ e′ : ℕ) : Type 0 where
   pub same : length y ≡ length b
   pub place : a′ + sizeOf gs ≡ e′
-  pub rest : put y a′ (write (inOrder d gs)) ≡ put b a (write (inOrder d (g ∷ gs)))
+  pub rest : withBytes y a′ (write (inOrder d gs)) ≡ withBytes b a (write (inOrder d (g ∷ gs)))
 
 module _ (g : Leg) (gs : List Leg) (b : List ℕ) (a : ℕ) (h : a + (legSize (g .kind) + sizeOf gs) ≤ length b) where
-  pub left-departure : (x : ℕ) → x ≡ a + sizeOf gs → Left Departure g gs b a (put b x (writeLeg g)) a x
+  pub left-departure : (x : ℕ) → x ≡ a + sizeOf gs → Left Departure g gs b a (withBytes b x (writeLeg g)) a x
   unfolding inOrder
   left-departure x e =
       let p = write (inOrder Departure gs) in
@@ -55,7 +55,7 @@ module _ (g : Leg) (gs : List Leg) (b : List ℕ) (a : ℕ) (h : a + (legSize (g
       }
 
   pub left-arrival : (x : ℕ) {e : ℕ} → x ≡ a + legSize (g .kind) → x + sizeOf gs ≡ e
-      → Left Arrival g gs b a (put b a (writeLeg g)) x e
+      → Left Arrival g gs b a (withBytes b a (writeLeg g)) x e
   unfolding inOrder write
   left-arrival x e f =
       let x′ : x ≡ a + length (writeLeg g) = omega (arith, leg-length g) in
@@ -66,16 +66,16 @@ module _ (g : Leg) (gs : List Leg) (b : List ℕ) (a : ℕ) (h : a + (legSize (g
       }
 
 -- ---- no leg left
-put-none : (b : List ℕ) (a : ℕ) → put b a [] ≡ b
-unfolding put
+put-none : (b : List ℕ) (a : ℕ) → withBytes b a [] ≡ b
+unfolding withBytes
 put-none b a = rw (add-zero a) (take-append-drop a b)
 
 pub all-there : {d : Direction} {g : Leg} {b y : List ℕ} {a a′ e′ : ℕ} → Left d g [] b a y a′ e′
-    → y ≡ put b a (write (inOrder d (g ∷ [])))
+    → y ≡ withBytes b a (write (inOrder d (g ∷ [])))
 all-there {d} {y = y} {a′ = a′} h = sym (rw (order-none d) (put-none y a′)) ∙ h .rest
 
 -- "On 0 bytes past the journey stay unchanged."
 pub at-front : (d : Direction) (gs : List Leg) (b : List ℕ) {size : ℕ} → size ≡ sizeOf gs
-    → put b 0 (write (inOrder d gs)) ≡ write (inOrder d gs) ++ drop size b
-unfolding put
+    → withBytes b 0 (write (inOrder d gs)) ≡ write (inOrder d gs) ++ drop size b
+unfolding withBytes
 at-front d gs b e = rw (zero-add _, order-size d gs, e)

@@ -15,7 +15,7 @@ use Rattle.model.specs.Bytes.{writeLeg, write, legSize, sizeOf}
 use Rattle.allocator.specs.declared.Parent.{Parent}
 use Rattle.allocator.specs.declared.Parent.the-variants.{Leg as By}
 use Rattle.allocator.specs.Rows.{parentOf}
-use Rattle.journey.specs.Put.{put}
+use Rattle.journey.specs.Put.{withBytes}
 use Rattle.path.specs.declared.Step.{Step}
 use Rattle.path.specs.declared.Step.the-variants.{On, Done}
 use Rattle.path.specs.Step.{stepOf}
@@ -32,7 +32,7 @@ pub record Writing (d : Direction) (n : ℕ) (w : List (Option Leg)) (k₀ s₀ 
   pub same : length b ≡ length b₀
   pub place : a + sizeOf (back d n w n k s) ≡ e
   pub room : e ≤ length b
-  pub rest : put b a (write (inOrder d (back d n w n k s))) ≡ put b₀ 0 (write (inOrder d (back d n w n k₀ s₀)))
+  pub rest : withBytes b a (write (inOrder d (back d n w n k s))) ≡ withBytes b₀ 0 (write (inOrder d (back d n w n k₀ s₀)))
 
 pub writing-none : {d : Direction} {n : ℕ} {w : List (Option Leg)} {k s size : ℕ} {b : List ℕ}
     → Traced d n w k s → k < 15 → size ≡ sizeOf (back d n w n k s) → size ≤ length b → Writing d n w k s b k s 0 size b
@@ -58,14 +58,14 @@ module _ {d : Direction} {n : ℕ} {w : List (Option Leg)} {k₀ s₀ : ℕ} {b�
           same = x .same ∙ h .same;
           place = x .place;
           room = omega (arith, x .same, h .room, v);
-          rest = x .rest ∙ ap (λ o. put b a (write (inOrder d o))) (sym c) ∙ h .rest;
+          rest = x .rest ∙ ap (λ o. withBytes b a (write (inOrder d o))) (sym c) ∙ h .rest;
         }
 
     none-left : r ≡ Done → Left d g [] b a y a′ e′ → {size : ℕ} → size ≡ sizeOf (back d n w n k₀ s₀)
         → y ≡ write (inOrder d (back d n w n k₀ s₀)) ++ drop size b₀
     none-left z x v =
         let c = at-end (h .traced) i q f z in
-        all-there x ∙ ap (λ o. put b a (write (inOrder d o))) (sym c) ∙ h .rest ∙ at-front d _ b₀ v
+        all-there x ∙ ap (λ o. withBytes b a (write (inOrder d o))) (sym c) ∙ h .rest ∙ at-front d _ b₀ v
 
 -- ---- a departure search: the leg ends at e
 module _ {n : ℕ} {w : List (Option Leg)} {k₀ s₀ : ℕ} {b₀ : List ℕ} {k s e : ℕ} {b : List ℕ}
@@ -75,7 +75,7 @@ module _ {n : ℕ} {w : List (Option Leg)} {k₀ s₀ : ℕ} {b₀ : List ℕ} {
     pub before-fits : legSize (g .kind) ≤ e
     before-fits = omega (arith, leg-fits h i q)
 
-    module _ (x : ℕ) (l : x + legSize (g .kind) ≡ e) {y : List ℕ} (v : y ≡ put b x (writeLeg g)) where
+    module _ (x : ℕ) (l : x + legSize (g .kind) ≡ e) {y : List ℕ} (v : y ≡ withBytes b x (writeLeg g)) where
       before : (gs : List Leg) → back Departure n w n k s ≡ g ∷ gs → Left Departure g gs b 0 y 0 x
       unfolding sizeOf
       before gs z =
@@ -98,7 +98,7 @@ module _ {n : ℕ} {w : List (Option Leg)} {k₀ s₀ : ℕ} {b₀ : List ℕ} {
     pub after-fits : a + legSize (g .kind) ≤ length b
     after-fits = omega (arith, leg-fits h i q, h .room)
 
-    module _ {x : ℕ} (l : x ≡ a + legSize (g .kind)) {y : List ℕ} (v : y ≡ put b a (writeLeg g)) where
+    module _ {x : ℕ} (l : x ≡ a + legSize (g .kind)) {y : List ℕ} (v : y ≡ withBytes b a (writeLeg g)) where
       after : (gs : List Leg) → back Arrival n w n k s ≡ g ∷ gs → Left Arrival g gs b a y x e
       unfolding sizeOf
       after gs z =

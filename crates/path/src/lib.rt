@@ -12,7 +12,7 @@ ghost use Rattle.model.specs.declared.Direction.the-variants.{Departure as Depa
 ghost use Rattle.model.specs.Back.{near as nearSide, back, inOrder};
 ghost use Rattle.model.specs.Bytes.{writeLeg, write, legSize, sizeOf};
 ghost use Rattle.allocator.specs.Layout.{Words, parentsOf};
-ghost use Rattle.journey.specs.Put.{put};
+ghost use Rattle.journey.specs.Put.{withBytes};
 ghost use Rattle.path.specs.Step.{lowers, stepOf};
 ghost use Rattle.path.specs.Traced.{Traced};
 
@@ -87,7 +87,7 @@ fn write_before(journey: &mut [u8], at: usize, g: Leg) -> usize
     requires { ⌜ legSize (g .kind) ≤ at ⌝ }
     requires { ⌜ at ≤ length (now journey) ⌝ }
     ensures { λ a. ⌜ a + legSize (g .kind) ≡ at ⌝ }
-    ensures { λ a. ⌜ now (journey .exit) ≡ put (now (journey .entry)) a (writeLeg g) ⌝ }
+    ensures { λ a. ⌜ now (journey .exit) ≡ withBytes (now (journey .entry)) a (writeLeg g) ⌝ }
 {
     let a = at - journey::leg_size(g);
     journey::write_leg(journey, a, g);
@@ -98,7 +98,7 @@ fn write_before(journey: &mut [u8], at: usize, g: Leg) -> usize
 fn write_after(journey: &mut [u8], at: usize, g: Leg) -> usize
     requires { ⌜ at + legSize (g .kind) ≤ length (now journey) ⌝ }
     ensures { λ e. ⌜ e ≡ at + legSize (g .kind) ⌝ }
-    ensures { λ _. ⌜ now (journey .exit) ≡ put (now (journey .entry)) at (writeLeg g) ⌝ }
+    ensures { λ _. ⌜ now (journey .exit) ≡ withBytes (now (journey .entry)) at (writeLeg g) ⌝ }
 {
     journey::write_leg(journey, at, g);
     at + journey::leg_size(g)
