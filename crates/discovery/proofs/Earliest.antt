@@ -14,7 +14,7 @@ use Rattle.model.specs.Lists.{upto}
 use Rattle.model.specs.Tables.{Net}
 use Rattle.model.specs.Rides.{firstTrip, catch}
 use Rattle.discovery.specs.declared.Trip.the-variants.{At, Nothing}
-use Rattle.discovery.specs.Trips.{notBefore, firstNotBefore, placeOf}
+use Rattle.discovery.specs.Trips.{notBefore, firstNotBefore, tripPlace}
 use Rattle.discovery.proofs.Firsts.{first-fails, first-passes}
 use Rattle.discovery.proofs.Within.{tripIn, InRoute, at-in, none-in}
 
@@ -38,17 +38,17 @@ module _ (n : Net) (r p x : ℕ) where
       rw (b i (omega arith) (omega arith)) (first-none k (suc i) (λ j h g. b j (omega arith) (omega arith)))
 
   module _ {i m : ℕ} (e : i ≡ firstNotBefore n r p x) (f : m ≡ n .trips r) where
-    pub earliest-at : i < m → At i ≡ placeOf Departure n r p x
-    unfolding placeOf
+    pub earliest-at : i < m → At i ≡ tripPlace Departure n r p x
+    unfolding tripPlace
     earliest-at l = rw (← e, ← f, lt-ltb i m l)
 
-    pub earliest-past : m ≤ i → Nothing ≡ placeOf Departure n r p x
-    unfolding placeOf
+    pub earliest-past : m ≤ i → Nothing ≡ tripPlace Departure n r p x
+    unfolding tripPlace
     earliest-past l = rw (← e, ← f, le-ltb i m l)
 
   -- the trip at that place is the model's
-  pub earliest-trip : tripIn n r (placeOf Departure n r p x) ≡ catch Departure n r p x
-  unfolding placeOf firstNotBefore tripIn catch
+  pub earliest-trip : tripIn n r (tripPlace Departure n r p x) ≡ catch Departure n r p x
+  unfolding tripPlace firstNotBefore tripIn catch
   earliest-trip =
       let t = notBefore n r p x in
       let i = first t (n .trips r) 0 in
@@ -61,8 +61,8 @@ module _ (n : Net) (r p x : ℕ) where
       let l = ltb-false i (n .trips r) e in
       rw e (sym (first-none (n .trips r) 0 (λ j h g. first-fails t (n .trips r) 0 j h (omega arith)))))
 
-  pub earliest-in : InRoute n r (placeOf Departure n r p x)
-  unfolding placeOf
+  pub earliest-in : InRoute n r (tripPlace Departure n r p x)
+  unfolding tripPlace
   earliest-in =
       let i = firstNotBefore n r p x in
       split (ltb i (n .trips r)) (λ e. rw e (at-in n r i (ltb-true i (n .trips r) e))) (λ e. rw e (none-in n r))

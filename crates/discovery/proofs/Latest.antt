@@ -17,7 +17,7 @@ use Rattle.model.specs.Tables.{Net}
 use Rattle.model.specs.Rides.{lastTrip, catch}
 use Rattle.repository.specs.Accepted.{Ordered}
 use Rattle.discovery.specs.declared.Trip.the-variants.{At, Nothing}
-use Rattle.discovery.specs.Trips.{notBefore, firstNotBefore, before, placeOf}
+use Rattle.discovery.specs.Trips.{notBefore, firstNotBefore, tripBefore, tripPlace}
 use Rattle.discovery.proofs.Firsts.{first-fails, first-passes, first-most}
 use Rattle.discovery.proofs.Tests.{not-before-rising}
 use Rattle.discovery.proofs.Within.{tripIn, InRoute, at-in, none-in}
@@ -88,39 +88,39 @@ module _ (n : Net) (r p x : ℕ) where
     unfolding firstNotBefore
     fails j l = first-fails after (n .trips r) 0 j (omega arith) (omega arith)
 
-    latest-one : tripIn n r (before i) ≡ catch Arrival n r p x
-    unfolding tripIn catch before
+    latest-one : tripIn n r (tripBefore i) ≡ catch Arrival n r p x
+    unfolding tripIn catch tripBefore
     latest-one = go i refl
       where
-        go : (k : ℕ) → i ≡ k → tripIn n r (before k) ≡ catch Arrival n r p x
+        go : (k : ℕ) → i ≡ k → tripIn n r (tripBefore k) ≡ catch Arrival n r p x
         go zero z = sym (last-same (n .trips r) 0 none (λ j h g. passes j (omega arith) (omega arith)))
         go (suc k) z =
             sym (last-some (n .trips r) 0 k none (omega arith) (omega (arith, most, e)) (λ j h c. fails j (omega arith))
             (λ j h c. passes j (omega arith) (omega arith)))
 
   -- the trip at the place is the model's
-  pub latest-trip : Ordered n → r < n .routes → p < n .positions r → tripIn n r (placeOf Arrival n r p x) ≡ catch Arrival n r p x
-  unfolding placeOf
+  pub latest-trip : Ordered n → r < n .routes → p < n .positions r → tripIn n r (tripPlace Arrival n r p x) ≡ catch Arrival n r p x
+  unfolding tripPlace
   latest-trip o hr hp = latest-one o hr hp refl
 
-  pub latest-in : InRoute n r (placeOf Arrival n r p x)
-  unfolding placeOf before
+  pub latest-in : InRoute n r (tripPlace Arrival n r p x)
+  unfolding tripPlace tripBefore
   latest-in = go (firstNotBefore n r p (x + 1)) refl
     where
-      go : (k : ℕ) → firstNotBefore n r p (x + 1) ≡ k → InRoute n r (before k)
+      go : (k : ℕ) → firstNotBefore n r p (x + 1) ≡ k → InRoute n r (tripBefore k)
       go zero z = none-in n r
       go (suc k) z = at-in n r k (omega (arith, most))
 
   -- the place as it is found
   module _ {i : ℕ} (e : i ≡ firstNotBefore n r p (x + 1)) where
-    pub latest-past : i ≡ 0 → Nothing ≡ placeOf Arrival n r p x
-    unfolding placeOf before
+    pub latest-past : i ≡ 0 → Nothing ≡ tripPlace Arrival n r p x
+    unfolding tripPlace tripBefore
     latest-past z = rw (← e, z)
 
-    pub latest-at : (i ≡ 0 → ⊥) → At (i - 1) ≡ placeOf Arrival n r p x
-    unfolding placeOf before
+    pub latest-at : (i ≡ 0 → ⊥) → At (i - 1) ≡ tripPlace Arrival n r p x
+    unfolding tripPlace tripBefore
     latest-at z = rw (← e) (go i z)
       where
-        go : (k : ℕ) → (k ≡ 0 → ⊥) → At (k - 1) ≡ before k
+        go : (k : ℕ) → (k ≡ 0 → ⊥) → At (k - 1) ≡ tripBefore k
         go zero z = absurd (z refl)
         go (suc k) z = let less : suc k - 1 ≡ k = omega arith in rw less

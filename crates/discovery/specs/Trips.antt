@@ -27,12 +27,12 @@ unfoldable pub firstNotBefore : Net → ℕ → ℕ → ℕ → ℕ
 firstNotBefore n r p x = first (notBefore n r p x) (n .trips r) 0
 
 -- the trip before a place
-unfoldable pub before : ℕ → Trip
-before zero = Nothing
-before (suc i) = At i
+unfoldable pub tripBefore : ℕ → Trip
+tripBefore zero = Nothing
+tripBefore (suc i) = At i
 
 -- the place of the first trip that arrives at position p not before the label x; in an arrival search of the last that arrives not after it,
 -- which stands before the first that arrives a second later
-unfoldable pub placeOf : Direction → Net → ℕ → ℕ → ℕ → Trip
-placeOf Departure n r p x = cond (ltb (firstNotBefore n r p x) (n .trips r)) (At (firstNotBefore n r p x)) Nothing
-placeOf Arrival n r p x = before (firstNotBefore n r p (x + 1))
+unfoldable pub tripPlace : Direction → Net → ℕ → ℕ → ℕ → Trip
+tripPlace Departure n r p x = cond (ltb (firstNotBefore n r p x) (n .trips r)) (At (firstNotBefore n r p x)) Nothing
+tripPlace Arrival n r p x = tripBefore (firstNotBefore n r p (x + 1))

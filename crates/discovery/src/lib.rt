@@ -6,13 +6,13 @@ ghost use Rattle.base.specs.Halving.{Bracket};
 ghost use Prim.Native.Nat.{ℕ, _<_};
 ghost use Rattle.model.specs.Lists.{upto};
 ghost use Rattle.model.specs.declared.Direction.the-variants.{Departure, Arrival};
-ghost use Rattle.model.specs.Choosing.{firstOf};
+ghost use Rattle.model.specs.Choosing.{firstPosition};
 ghost use Rattle.repository.specs.Sections.{callRoute, callFirst};
 ghost use Rattle.repository.specs.Laid.{Laid};
 ghost use Rattle.repository.specs.Accepted.{Accepted};
 ghost use Rattle.repository.specs.NetOf.{transferRow, walkRow, netOf};
 ghost use Rattle.repository.specs.Rows.{calls, transfers, walks, rowCount, OfStop, Stands};
-ghost use Rattle.discovery.specs.Trips.{Along, notBefore, firstNotBefore, placeOf};
+ghost use Rattle.discovery.specs.Trips.{Along, notBefore, firstNotBefore, tripPlace};
 use shared::Duration;
 use shared::Time;
 
@@ -157,7 +157,7 @@ pub fn find_earliest_trip(tables: &[u32], r: u32, p: u32, label: Time, near: u32
     requires { ⌜ r < netOf (now tables) .routes ⌝ }
     requires { ⌜ p < netOf (now tables) .positions r ⌝ }
     requires { ⌜ 0 < label .0 ⌝ }
-    ensures { λ t. ⌜ t ≡ placeOf Departure (netOf (now (tables .entry))) r p (label .0) ⌝ }
+    ensures { λ t. ⌜ t ≡ tripPlace Departure (netOf (now (tables .entry))) r p (label .0) ⌝ }
 {
     let i = first_near(tables, r, p, label.0 as usize, near as usize);
     if i < repository::routes::trips_of_route(tables, r) {
@@ -173,7 +173,7 @@ pub fn find_latest_trip(tables: &[u32], r: u32, p: u32, label: Time, near: u32) 
     requires { ⌜ r < netOf (now tables) .routes ⌝ }
     requires { ⌜ p < netOf (now tables) .positions r ⌝ }
     requires { ⌜ 0 < label .0 ⌝ }
-    ensures { λ t. ⌜ t ≡ placeOf Arrival (netOf (now (tables .entry))) r p (label .0) ⌝ }
+    ensures { λ t. ⌜ t ≡ tripPlace Arrival (netOf (now (tables .entry))) r p (label .0) ⌝ }
 {
     let i = first_near(tables, r, p, label.0 as usize + 1, near as usize + 1);
     if i == 0 {
@@ -189,7 +189,7 @@ pub fn index_in_route(tables: &[u32], j: u32) -> u32
     requires { ⌜ j < rowCount calls (now tables) ⌝ }
     ensures { λ p. ⌜ p ≡ callFirst (now (tables .entry)) j ⌝ }
     ensures { λ p. ⌜ ((s : ℕ) → OfStop calls (now (tables .entry)) s j
-        → p ≡ firstOf (netOf (now (tables .entry))) (callRoute (now (tables .entry)) j) s
+        → p ≡ firstPosition (netOf (now (tables .entry))) (callRoute (now (tables .entry)) j) s
         (upto (netOf (now (tables .entry)) .positions (callRoute (now (tables .entry)) j)) 0)) ⌝ }
 {
     repository::calls::call_first(tables, j)

@@ -4,13 +4,13 @@ use mathlib.Core.Path.{_≡_, refl, sym, ap, _∙_, subst}
 use mathlib.Core.Bool.{Bool}
 use mathlib.Core.List.{List, [], _∷_}
 use native.Mathlib.Omega.{arith}
-use Rattle.marks.specs.Marks.{firstOf as firstMark}
+use Rattle.marks.specs.Marks.{firstOf}
 use Rattle.marks.specs.declared.Next.{Next}
 use Rattle.marks.specs.declared.Next.the-variants.{At}
 use Rattle.model.specs.declared.Direction.{Direction}
 use Rattle.model.specs.Tables.{Net}
 use Rattle.model.specs.Lists.{upto, setIn}
-use Rattle.model.specs.Choosing.{Chosen, firstOf, choose1, chooseAt, choose}
+use Rattle.model.specs.Choosing.{Chosen, firstPosition, choose1, chooseAt, choose}
 use Rattle.model.specs.Work.{Work}
 use Rattle.repository.specs.Sections.{callRoute}
 use Rattle.repository.specs.Accepted.{Accepted}
@@ -61,7 +61,7 @@ module _ {w : List ℕ} {n s j b : ℕ} (h : Accepted w) (en : n ≡ netOf w .st
       → Turn (chosenBy d (netOf w) s) goal (rest (callRoute w) j b) x
       → r ≡ callRoute w j
       → ((u : ℕ) → OfStop calls w u j
-      → p ≡ firstOf (netOf w) (callRoute w j) u (upto (netOf w .positions (callRoute w j)) 0))
+      → p ≡ firstPosition (netOf w) (callRoute w j) u (upto (netOf w .positions (callRoute w j)) 0))
       → y ≡ activated d r p x → Turn (chosenBy d (netOf w) s) goal (rest (callRoute w) (j + 1) b) y
   unfolding chosenBy
   route-next d t er ep ey = row-next (callRoute w) j b t l (ey ∙ rw (er, ep s here))
@@ -78,7 +78,7 @@ module _ (d : Direction) (t : Net) (n m : ℕ) where
 
   module _ (i : ℕ) (w q : List ℕ) {goal : Work} {a : Next}
       (o : Turn (chosenAt d t) goal (after i (markOf n m q)) (view n m w q))
-      (e : a ≡ firstMark (after i (markOf n m q))) where
+      (e : a ≡ firstOf (after i (markOf n m q))) where
     pub stop-next : (v p : List ℕ) {s : ℕ} → a ≡ At s → view n m v p ≡ chosenAt d t s (view n m w q)
         → Turn (chosenAt d t) goal (after (s + 1) (markOf n m p)) (view n m v p)
     unfolding view chosenAt withChosen withActive withMask

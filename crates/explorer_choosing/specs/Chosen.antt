@@ -7,14 +7,14 @@ use Rattle.model.specs.declared.Mode.{Mode}
 use Rattle.model.specs.State.{Task}
 use Rattle.model.specs.Tables.{Net}
 use Rattle.model.specs.Lists.{upto, setIn}
-use Rattle.model.specs.Choosing.{firstOf, chooseAt, choose}
+use Rattle.model.specs.Choosing.{firstPosition, chooseAt, choose}
 use Rattle.model.specs.Work.{Work}
 use Rattle.allocator.specs.Operations.{chosenOf, withChosen, activated}
 use Rattle.explorer.specs.Applied.{openedWork}
 
 -- a route r of stop s: "take the first position of the stop"
 unfoldable pub chosenBy : Direction → Net → ℕ → ℕ → Work → Work
-chosenBy d n s r w = activated d r (firstOf n r s (upto (n .positions r) 0)) w
+chosenBy d n s r w = activated d r (firstPosition n r s (upto (n .positions r) 0)) w
 
 -- all routes of stop s: each route's mark and the routes to scan are those of the model, and all else is as before
 unfoldable pub chosenAt : Direction → Net → ℕ → Work → Work

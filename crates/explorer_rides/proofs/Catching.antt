@@ -20,7 +20,7 @@ use Rattle.repository.specs.Rows.{TripOf, timeRow, tripCount}
 use Rattle.repository.proofs.Trips.{trip-known}
 use Rattle.discovery.specs.declared.Trip.{Trip}
 use Rattle.discovery.specs.declared.Trip.the-variants.{At, Nothing}
-use Rattle.discovery.specs.Trips.{placeOf}
+use Rattle.discovery.specs.Trips.{tripPlace}
 use Rattle.discovery.proofs.Within.{tripIn, InRoute}
 use Rattle.discovery.proofs.Caught.{place-trip, place-in}
 use Rattle.explorer_rides.specs.declared.Call.{Call}
@@ -30,10 +30,10 @@ use Rattle.explorer_rides.proofs.Seats.{aboard-on}
 
 -- ---- the lookup
 module _ {d : Direction} (w : List ℕ) (r p x : ℕ) {t : Trip} where
-  pub place-departure : d ≡ Departure → t ≡ placeOf Departure (netOf w) r p x → t ≡ placeOf d (netOf w) r p x
+  pub place-departure : d ≡ Departure → t ≡ tripPlace Departure (netOf w) r p x → t ≡ tripPlace d (netOf w) r p x
   place-departure e f = f ∙ rw e
 
-  pub place-arrival : d ≡ Arrival → t ≡ placeOf Arrival (netOf w) r p x → t ≡ placeOf d (netOf w) r p x
+  pub place-arrival : d ≡ Arrival → t ≡ tripPlace Arrival (netOf w) r p x → t ≡ tripPlace d (netOf w) r p x
   place-arrival e f = f ∙ rw e
 
 -- a trip of the route, at place i of its order
@@ -46,7 +46,7 @@ module _ (w : List ℕ) (r : ℕ) {i v : ℕ} (l : i < netOf w .trips r) (g : v 
 
 -- ---- the ride that the code makes of what was found
 module _ (d : Direction) (w : List ℕ) (here : Call) (x : ℕ) {t : Trip}
-    (e : t ≡ placeOf d (netOf w) (here .route) (here .position) x) where
+    (e : t ≡ tripPlace d (netOf w) (here .route) (here .position) x) where
   module _ {i : ℕ} (f : t ≡ At i) where
     pub caught-in : i < netOf w .trips (here .route)
     caught-in = (place-in w (here .route) (here .position) x d) .within i (sym e ∙ f)
@@ -57,12 +57,12 @@ module _ (d : Direction) (w : List ℕ) (here : Call) (x : ℕ) {t : Trip}
 
       pub caught-is : (a : Ride) {row : ℕ} → row ≡ timeRow w v
           → record { trip = v; since = here .position; row = row; place = i }
-          ≡ caught w (here .route) (here .position) a (placeOf d (netOf w) (here .route) (here .position) x)
+          ≡ caught w (here .route) (here .position) a (tripPlace d (netOf w) (here .route) (here .position) x)
       unfolding caught
       caught-is a k = rw (← e, f, ← g, ← k)
 
   pub caught-not : (a : Ride) → t ≡ Nothing
-      → a ≡ caught w (here .route) (here .position) a (placeOf d (netOf w) (here .route) (here .position) x)
+      → a ≡ caught w (here .route) (here .position) a (tripPlace d (netOf w) (here .route) (here .position) x)
   unfolding caught
   caught-not a f = rw (← e, f)
 
@@ -90,15 +90,15 @@ module _ (w : List ℕ) (here : Call) (a : Ride) (h : OnRoute w here) where
   }
   trip-seated Nothing z s = s
 
-  module _ (d : Direction) (x : ℕ) {b : Ride} (e : b ≡ caught w r p a (placeOf d (netOf w) r p x)) where
+  module _ (d : Direction) (x : ℕ) {b : Ride} (e : b ≡ caught w r p a (tripPlace d (netOf w) r p x)) where
     pub caught-aboard : aboard b ≡ boarded p (aboard a) (catch d (netOf w) r p x)
     caught-aboard =
         ap aboard e
-        ∙ trip-aboard (catch d (netOf w) r p x) (placeOf d (netOf w) r p x) (place-in w r p x d)
+        ∙ trip-aboard (catch d (netOf w) r p x) (tripPlace d (netOf w) r p x) (place-in w r p x d)
         (place-trip w r p x d (h .accepted) (h .route) (h .position))
 
     pub caught-seated : Seated w r a → Seated w r b
-    caught-seated s = rw e (trip-seated (placeOf d (netOf w) r p x) (place-in w r p x d) s)
+    caught-seated s = rw e (trip-seated (tripPlace d (netOf w) r p x) (place-in w r p x d) s)
 
 -- ---- an absent label
 module _ {n : Net} (z : Timed n) (r p : ℕ) (hr : r < n .routes) (hp : p < n .positions r) where

@@ -7,7 +7,7 @@ ghost use Rattle.model.specs.Moments.{better, ahead};
 ghost use Rattle.repository.specs.Laid.{Laid};
 ghost use Rattle.repository.specs.NetOf.{netOf};
 ghost use Rattle.repository.specs.Rows.{timeCount};
-ghost use Rattle.discovery.specs.Trips.{placeOf};
+ghost use Rattle.discovery.specs.Trips.{tripPlace};
 ghost use Rattle.allocator.specs.Layout.{Words, bestOf};
 ghost use Rattle.allocator.specs.Does.{Usable, Does};
 ghost use Rattle.allocator.specs.Operations.{applied};
@@ -26,7 +26,7 @@ use shared::Time;
 fn find_trip(tables: &[u32], round: Round, here: Call, label: Time, near: u32) -> Trip
     requires { ⌜ OnRoute (now tables) here ⌝ }
     requires { ⌜ 0 < label .0 ⌝ }
-    ensures { λ t. ⌜ t ≡ placeOf (round .direction) (netOf (now (tables .entry))) (here .route) (here .position) (label .0) ⌝ }
+    ensures { λ t. ⌜ t ≡ tripPlace (round .direction) (netOf (now (tables .entry))) (here .route) (here .position) (label .0) ⌝ }
 {
     let r = here.route;
     let p = here.position;
@@ -43,7 +43,7 @@ pub fn catch_trip(tables: &[u32], round: Round, here: Call, label: Time, ride: R
     requires { ⌜ 0 < label .0 ⌝ }
     ensures { λ e. ⌜ e
         ≡ caught (now (tables .entry)) (here .route) (here .position) ride
-        (placeOf (round .direction) (netOf (now (tables .entry))) (here .route) (here .position) (label .0)) ⌝ }
+        (tripPlace (round .direction) (netOf (now (tables .entry))) (here .route) (here .position) (label .0)) ⌝ }
 {
     let found = find_trip(tables, round, here, label, ride.place);
     match found {

@@ -18,7 +18,7 @@ use Rattle.model.specs.Tables.{Net}
 use Rattle.model.specs.Limits.{MOST-ROUNDS}
 use Rattle.model.specs.Lists.{upto, setIn, anyOf}
 use Rattle.model.specs.State.{Task, Labels, Times, State}
-use Rattle.model.specs.Choosing.{Chosen, firstOf, fresh, refilled, choose1, chooseAt, choose}
+use Rattle.model.specs.Choosing.{Chosen, firstPosition, fresh, refilled, choose1, chooseAt, choose}
 use Rattle.model.specs.Footpaths.{footpaths}
 use Rattle.model.specs.Rides.{rides}
 use Rattle.model.specs.Round.{Order, picks, opened, rideHalf, footHalf, ridden, footed, aimed, roundTimes, riddenParents, roundParents, round}
@@ -41,8 +41,8 @@ marked-in stops bs z = setIn-each (λ s. s < stops) 0 bs (λ j h e. rw zero-add 
 
 module _ {n m : Net} (e : Same n m) (ok : Sound n) where
   -- choosing
-  position-same : (r s : ℕ) → r < n .routes → {ps : List ℕ} → Each (λ p. p < n .positions r) ps → firstOf n r s ps ≡ firstOf m r s ps
-  unfolding firstOf
+  position-same : (r s : ℕ) → r < n .routes → {ps : List ℕ} → Each (λ p. p < n .positions r) ps → firstPosition n r s ps ≡ firstPosition m r s ps
+  unfolding firstPosition
   position-same r s hr nil = refl
   position-same r s hr (cons {x = p} h hs) = rw (e .stop-at r p hr h, position-same r s hr hs)
 
@@ -50,10 +50,10 @@ module _ {n m : Net} (e : Same n m) (ok : Sound n) where
   unfolding chooseAt
   at-same d s c nil = refl
   at-same d s c (cons {x = r} {xs = rs} hr hs) =
-      let same : firstOf n r s (upto (n .positions r) 0) ≡ firstOf m r s (upto (m .positions r) 0) =
+      let same : firstPosition n r s (upto (n .positions r) 0) ≡ firstPosition m r s (upto (m .positions r) 0) =
       position-same r s hr (upto-below (n .positions r) 0 (n .positions r) (omega arith))
-      ∙ ap (λ (k : ℕ). firstOf m r s (upto k 0)) (e .positions r hr) in
-      rw same (at-same d s (choose1 d r (firstOf m r s (upto (m .positions r) 0)) c) hs)
+      ∙ ap (λ (k : ℕ). firstPosition m r s (upto k 0)) (e .positions r hr) in
+      rw same (at-same d s (choose1 d r (firstPosition m r s (upto (m .positions r) 0)) c) hs)
 
   choose-same : (d : Direction) {ss : List ℕ} (c : Chosen) → Each (λ s. s < n .stops) ss → choose d n ss c ≡ choose d m ss c
   unfolding choose

@@ -8,7 +8,7 @@ use native.Mathlib.Decide.{decLt}
 use borrow.Author.Tests.{eq-eqb, ne-eqb}
 use Rattle.model.specs.Lists.{upto}
 use Rattle.model.specs.Tables.{Net}
-use Rattle.model.specs.Choosing.{firstOf}
+use Rattle.model.specs.Choosing.{firstPosition}
 use Rattle.repository.specs.Sections.{sec, CALL-STARTS, callRoute, callFirst}
 use Rattle.repository.specs.NetOf.{netOf}
 use Rattle.repository.specs.Accepted.{Called, Accepted}
@@ -89,8 +89,8 @@ module _ {w : List ℕ} (h : Accepted w) {s : ℕ} where
 -- ---- the first of the positions listed
 
 first-at : (n : Net) (r s m p i : ℕ) → i ≤ p → p < i + m → n .stopAt r p ≡ s → ((q : ℕ) → q < p → n .stopAt r q ≡ s → ⊥)
-    → firstOf n r s (upto m i) ≡ p
-unfolding firstOf upto
+    → firstPosition n r s (upto m i) ≡ p
+unfolding firstPosition upto
 first-at n r s zero p i l g e b = absurd (omega arith)
 first-at n r s (suc m) p i l g e b =
     elim (decLt i p) [
@@ -100,7 +100,7 @@ first-at n r s (suc m) p i l g e b =
 
 module _ {w : List ℕ} (h : Accepted w) {s : ℕ} where
   pub first-position : {j r p : ℕ} → OfStop calls w s j → r ≡ callRoute w j → p ≡ callFirst w j
-      → p ≡ firstOf (netOf w) r s (upto (netOf w .positions r) 0)
+      → p ≡ firstPosition (netOf w) r s (upto (netOf w .positions r) 0)
   first-position {j} o e f =
       let at = first-at (netOf w) (callRoute w j) s (netOf w .positions (callRoute w j)) (callFirst w j) 0 (omega arith)
       (omega (arith, position-known h o refl refl)) (at-first h o) (before-first h o) in
