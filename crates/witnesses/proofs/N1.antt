@@ -18,6 +18,8 @@ use Rattle.model.specs.Search.{search}
 use Rattle.model.specs.Journey.{Departing, Dated}
 use Rattle.model.specs.AskedFor.{AskedFor}
 use Rattle.model.specs.Sound.{Sound, Narrow}
+use Rattle.model.proofs.Examples.{N as listedN}
+use Rattle.model.proofs.Alike.{alike-answered}
 use Rattle.repository.specs.Accepted.{Accepted}
 use Rattle.repository.specs.NetOf.{netOf}
 use Rattle.repository.specs.Checked.{checkOf}
@@ -30,7 +32,7 @@ use Rattle.raptor.specs.Lent.{Lent}
 use Rattle.raptor.specs.Solved.{sized, Solved}
 use Rattle.raptor.proofs.Promises.{journey-bytes, reads-back, departure-journey, any-order, any-order-journey, journey-moments, too-long-journey}
 use Rattle.witnesses.proofs.Turned.{turned, turned-fair}
-use Rattle.witnesses.proofs.Computed.{from-0-at-50, N1-legs, N1-searched, N1-answered, N10-answered, N-places}
+use Rattle.witnesses.proofs.Computed.{N-alike, from-0-at-50, N1-legs, N1-searched, N1-answered, N10-answered, N-places}
 
 -- `accepted-sound` and `accepted-narrow`, of words that are accepted
 pub N-words-sound : Sound (netOf N)
@@ -38,6 +40,11 @@ N-words-sound = accepted-sound N-accepted
 
 pub N-words-narrow : Narrow (netOf N)
 N-words-narrow = accepted-narrow N-accepted
+
+-- `alike-answered`: on N's words every query is answered as on network N as document 01 lists it
+pub N-answered : (q : Query) (fault : ℕ) (fits : Bool) (room : ℕ)
+    → answer fault fits (netOf N) q room ≡ answer fault fits listedN q room
+N-answered = alike-answered N-alike N-words-sound
 
 -- a workspace of the lengths that the words ask for (`roomy` of Computed.antt)
 pub answered : (t : List ℕ) → Accepted t → (q : Query) {before : Lent} {r : Answer} {after : Lent} → Solved t q before r after
