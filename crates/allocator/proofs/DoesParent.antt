@@ -8,7 +8,7 @@ use native.Mathlib.Omega.{arith}
 use borrow.Author.Tests.{ltb-true, ltb-false, eqb-true, eqb-false}
 use lib.Dec.{eqb, ltb}
 use lib.ListN.{set}
-use Rattle.base.specs.Choice.{split}
+use Rattle.base.proofs.Choice.{split}
 use Rattle.model.specs.declared.Leg.{Leg}
 use Rattle.allocator.specs.Sections.{sect, overlaid}
 use Rattle.allocator.specs.Rows.{legRow, encoded, decoded, rowOf, parentIn, parents}

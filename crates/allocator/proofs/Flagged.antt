@@ -12,7 +12,7 @@ use lib.Dec.{eqb, lit<}
 use lib.ListN.{length, getD, set, replicate, length-replicate}
 use lib.Pow.{pow-lt}
 use lib.Seq.{getD-set-same, getD-set-other}
-use Rattle.base.specs.Choice.{split}
+use Rattle.base.proofs.Choice.{split}
 use Rattle.base.specs.Tab.{tab}
 use Rattle.marks.specs.Marks.{marked, withMark, keep, chosenFrom, chosen, stops}
 use Rattle.marks.proofs.Laws.{mark-length, mark-same, mark-other, clear-none}

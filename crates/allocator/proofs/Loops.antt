@@ -10,7 +10,7 @@ use borrow.Author.Tests.{ltb-true, ltb-false}
 use lib.Dec.{ltb}
 use lib.ListN.{length, getD, set, drop, replicate, length-replicate, replicate-append-replicate, length-drop, take-append-drop}
 use lib.Seq.{take-suc, getD-drop}
-use Rattle.base.specs.Choice.{split}
+use Rattle.base.proofs.Choice.{split}
 use Rattle.allocator.specs.Sections.{sect, overlaid}
 use Rattle.allocator.proofs.Sections.{sect-length, put-more, put-before, put-behind}
 

@@ -12,8 +12,9 @@ use borrow.Author.Tests.{ltb-true, ltb-false, eqb-true, eqb-false}
 use lib.Dec.{eqb, ltb}
 use lib.ListN.{length, getD, drop, take-append-drop, drop-of-length-le}
 use lib.Seq.{ext-getD, drop-drop}
-use Rattle.base.specs.Bits.{bit, bit-lt}
-use Rattle.base.specs.Choice.{split}
+use Rattle.base.specs.Bits.{bit}
+use Rattle.base.proofs.Bits.{bit-lt}
+use Rattle.base.proofs.Choice.{split}
 use Rattle.marks.specs.Marks.{marked}
 use Rattle.model.specs.Work.{Work}
 use Rattle.allocator.specs.Sections.{sect}

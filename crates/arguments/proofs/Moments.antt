@@ -7,7 +7,7 @@ use native.Mathlib.Omega.{arith}
 use lib.ListN.{length, getD}
 use lib.Dec.{eqb, leb}
 use borrow.Author.Tests.{lt-leb, le-leb, leb-true, eq-eqb, ne-eqb}
-use Rattle.base.specs.Choice.{and-left}
+use Rattle.base.proofs.Choice.{and-left}
 use Rattle.arguments.specs.declared.bytes.Number.{Number}
 use Rattle.arguments.specs.declared.bytes.Number.the-variants.{Value}
 use Rattle.arguments.specs.declared.moment.Moment.{Moment}

@@ -7,7 +7,7 @@ use native.Mathlib.Omega.{arith}
 use lib.ListN.{length, getD}
 use lib.Dec.{eqb, leb}
 use borrow.Author.Tests.{le-leb, lt-leb, leb-true, eq-eqb, ne-eqb}
-use Rattle.base.specs.Choice.{split, and-left}
+use Rattle.base.proofs.Choice.{split, and-left}
 use Rattle.base.specs.All.{all}
 use Rattle.arguments.specs.Word.{sameAt, beginsWith, same, afterOf}
 

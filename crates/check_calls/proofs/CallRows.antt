@@ -5,7 +5,7 @@ use mathlib.Core.Bool.{true, false, _&&_, true≢false}
 use mathlib.Core.List.{List}
 use lib.Dec.{ltb, leb, eqb}
 use borrow.Author.Tests.{lt-ltb, ltb-true, le-leb, leb-true, eqb-true, eq-eqb}
-use Rattle.base.specs.Choice.{split, and-left, and-right}
+use Rattle.base.proofs.Choice.{split, and-left, and-right}
 use Rattle.repository.specs.Sections.{sec, routes, CALL-STARTS, SERVED, ROUTE-STOP-STARTS, ROUTE-STOPS, callRoute}
 use Rattle.repository.specs.Sections.{callFirst, callLast}
 use Rattle.repository.specs.NetOf.{count}

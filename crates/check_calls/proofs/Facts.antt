@@ -7,8 +7,9 @@ use mathlib.Core.List.{List}
 use native.Mathlib.Omega.{arith}
 use lib.Dec.{eqb}
 use borrow.Author.Tests.{lt-ltb, ltb-true, eqb-true, eq-eqb}
-use Rattle.base.specs.Choice.{split}
-use Rattle.base.specs.All.{all, all-at}
+use Rattle.base.proofs.Choice.{split}
+use Rattle.base.specs.All.{all}
+use Rattle.base.proofs.All.{all-at}
 use Rattle.repository.specs.Sections.{size, sec}
 use Rattle.repository.specs.Listed.{among, fresh, distinct, indexed, inRange, under}
 use Rattle.repository.specs.Accepted.{Under}

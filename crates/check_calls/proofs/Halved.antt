@@ -6,8 +6,8 @@ use mathlib.Core.List.{List}
 use native.Mathlib.Omega.{arith}
 use lib.Dec.{leb, ltb}
 use borrow.Author.Tests.{ltb-true, ltb-false, leb-true, leb-false, le-leb, lt-leb, eqb-true}
-use Rattle.base.specs.Choice.{split, and-left}
-use Rattle.base.specs.All.{all-at}
+use Rattle.base.proofs.Choice.{split, and-left}
+use Rattle.base.proofs.All.{all-at}
 use Rattle.base.specs.Halving.{Rising, Bracket}
 use Rattle.repository.specs.Sections.{size, sec, stops, routes, rows, CALL-STARTS, CALLS, ROUTE-STOP-STARTS}
 use Rattle.repository.specs.Sections.{ROUTE-STOPS, CALL-WORDS, callRoute}

@@ -5,7 +5,8 @@ use mathlib.Core.Bool.{Bool, true, false, not}
 use mathlib.Core.List.{List}
 use native.Mathlib.Omega.{arith}
 use borrow.Author.Tests.{lt-ltb, le-ltb, not-true}
-use Rattle.base.specs.All.{all, So, so-start, so-on, so-fails, so-passes}
+use Rattle.base.specs.All.{all, So}
+use Rattle.base.proofs.All.{so-start, so-on, so-fails, so-passes}
 use Rattle.repository.specs.Sections.{sec, CALL-STARTS, ROUTE-STOP-STARTS, ROUTE-TRIP-STARTS, callRoute}
 use Rattle.repository.specs.NetOf.{count}
 use Rattle.repository.specs.Listed.{fails, some, later, ascending, called, calledAlong, running, passes}

@@ -5,8 +5,9 @@ use mathlib.Core.Bool.{Bool, true, false, cond, not, _||_, or-true, true≢false
 use native.Mathlib.Omega.{arith}
 use lib.Dec.{eqb}
 use borrow.Author.Tests.{eqb-true, eqb-false}
-use Rattle.base.specs.Choice.{split}
-use Rattle.base.specs.All.{all, every, all-at}
+use Rattle.base.proofs.Choice.{split}
+use Rattle.base.specs.All.{all, every}
+use Rattle.base.proofs.All.{all-at}
 use Rattle.repository.specs.Listed.{fails, some}
 
 -- two tests that pass together are the same

@@ -7,7 +7,7 @@ use native.Mathlib.Numerals.{add-one}
 use lib.Dec.{ltb}
 use borrow.Author.Tests.{ltb-true, ltb-false}
 use lib.ListN.{length}
-use Rattle.base.specs.Choice.{split}
+use Rattle.base.proofs.Choice.{split}
 use Rattle.repository.specs.Sections.{start, size, sec, SECTIONS}
 use Rattle.repository.specs.Laid.{Laid, Starts}
 use Rattle.repository.specs.Accepted.{Under}

@@ -5,7 +5,8 @@ use mathlib.Core.Bool.{Bool, true, false, not}
 use mathlib.Core.List.{List}
 use native.Mathlib.Omega.{arith}
 use borrow.Author.Tests.{not-true, not-false}
-use Rattle.base.specs.All.{all, So, so-on, so-fails, so-passes}
+use Rattle.base.specs.All.{all, So}
+use Rattle.base.proofs.All.{so-on, so-fails, so-passes}
 use Rattle.repository.specs.Sections.{sec}
 use Rattle.repository.specs.Listed.{under}
 

@@ -6,7 +6,7 @@ use mathlib.Core.List.{List}
 use native.Mathlib.Omega.{arith}
 use lib.ListN.{replicate, length-replicate}
 use borrow.Author.Tests.{not-false}
-use Rattle.base.specs.Choice.{and-left}
+use Rattle.base.proofs.Choice.{and-left}
 use Rattle.marks.proofs.Laws.{clear-none}
 use Rattle.repository.specs.Sections.{size, sec, stops, trips, areas, CHILD-STARTS, CHILDREN, ROUTE-TRIPS, TIME-STARTS}
 use Rattle.repository.specs.Sections.{AREA-STARTS, AREA-STOPS}

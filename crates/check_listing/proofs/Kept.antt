@@ -7,7 +7,7 @@ use mathlib.Core.List.{List}
 use native.Mathlib.Omega.{arith}
 use lib.Dec.{eqb}
 use borrow.Author.Tests.{lt-ltb, eqb-false, eq-eqb}
-use Rattle.base.specs.Choice.{split}
+use Rattle.base.proofs.Choice.{split}
 use Rattle.model.specs.Moments.{MAX}
 use Rattle.repository.specs.Sections.{size, sec, stops, routes, trips, areas, rows, STOP-LIST, STATIONS, CHILD-STARTS}
 use Rattle.repository.specs.Sections.{CHILDREN, CALL-STARTS, TRANSFER-STARTS, WALKS, ROUTE-STOP-STARTS, ROUTE-STOPS}

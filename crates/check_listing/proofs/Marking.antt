@@ -8,8 +8,9 @@ use native.Mathlib.Omega.{arith}
 use lib.Dec.{eqb}
 use borrow.Author.Tests.{eqb-true, eqb-false, eq-eqb, ne-eqb, not-false}
 use lib.ListN.{length}
-use Rattle.base.specs.Choice.{split}
-use Rattle.base.specs.All.{So, so-start, so-on, so-fails, so-passes}
+use Rattle.base.proofs.Choice.{split}
+use Rattle.base.specs.All.{So}
+use Rattle.base.proofs.All.{so-start, so-on, so-fails, so-passes}
 use Rattle.marks.specs.Marks.{marked, withMark, Stand}
 use Rattle.marks.proofs.Stand.{stand-more}
 use Rattle.repository.specs.Sections.{size, sec, CHILDREN}

@@ -4,7 +4,7 @@ use mathlib.Core.Path.{_≡_, sym, _∙_}
 use mathlib.Core.Bool.{Bool, true, false, not, _&&_}
 use mathlib.Core.List.{List}
 use borrow.Author.Tests.{not-true, not-false}
-use Rattle.base.specs.Choice.{and-left, and-right}
+use Rattle.base.proofs.Choice.{and-left, and-right}
 use Rattle.repository.specs.Sections.{size, sec, stops, trips, CHILDREN, ROUTE-STOPS, ROUTE-TRIPS, AREA-STARTS}
 use Rattle.repository.specs.Sections.{AREA-STOPS}
 use Rattle.repository.specs.Listed.{inRange, distinct, childrenName, childrenAll, children, routeStops, routeTrips}

@@ -7,7 +7,7 @@ use native.Mathlib.Omega.{arith}
 use lib.Dec.{ltb, eqb}
 use lib.ListN.{length}
 use borrow.Author.Tests.{ltb-true, lt-ltb, le-ltb, eqb-true, eq-eqb, ne-eqb}
-use Rattle.base.specs.Choice.{and-left, and-right}
+use Rattle.base.proofs.Choice.{and-left, and-right}
 use Rattle.model.specs.Moments.{MAX}
 use Rattle.repository.specs.Sections.{size, sec, stops, STOP-LIST, STATIONS, CHILDREN, ROUTE-STOP-STARTS, ROUTE-TRIPS}
 use Rattle.repository.specs.Sections.{TIME-STARTS, transferFrom, transferTo, walkTo}

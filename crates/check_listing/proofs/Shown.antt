@@ -7,8 +7,8 @@ use mathlib.Core.List.{List}
 use native.Mathlib.Omega.{arith}
 use lib.Dec.{ltb, eqb}
 use borrow.Author.Tests.{ltb-true, eqb-true}
-use Rattle.base.specs.Choice.{and-left, and-right}
-use Rattle.base.specs.All.{all-at}
+use Rattle.base.proofs.Choice.{and-left, and-right}
+use Rattle.base.proofs.All.{all-at}
 use Rattle.model.specs.Moments.{MAX}
 use Rattle.repository.specs.Sections.{size, sec, stops, routes, trips, areas, rows, STOP-LIST, STATIONS, CHILD-STARTS}
 use Rattle.repository.specs.Sections.{CHILDREN, CALL-STARTS, TRANSFER-STARTS, WALKS, ROUTE-STOP-STARTS, ROUTE-STOPS}

@@ -4,7 +4,7 @@ use mathlib.Core.Path.{_≡_, refl}
 use mathlib.Core.Bool.{Bool, true, _&&_}
 use mathlib.Core.List.{List, [], _∷_}
 use lib.ListN.{getD}
-use Rattle.base.specs.Choice.{and-left, and-right}
+use Rattle.base.proofs.Choice.{and-left, and-right}
 
 abbrev pub joined : Bool → List Bool → Bool
 joined b [] = b

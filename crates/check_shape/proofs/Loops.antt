@@ -5,8 +5,9 @@ use mathlib.Core.Bool.{Bool, true, false}
 use native.Mathlib.Omega.{arith}
 use lib.Dec.{leb}
 use borrow.Author.Tests.{leb-true, leb-false}
-use Rattle.base.specs.Choice.{split}
-use Rattle.base.specs.All.{all, So, so-start, so-on, so-fails, so-passes}
+use Rattle.base.proofs.Choice.{split}
+use Rattle.base.specs.All.{all, So}
+use Rattle.base.proofs.All.{so-start, so-on, so-fails, so-passes}
 
 module _ {f : ℕ → Bool} {a b i : ℕ} (h : So f a b i) where
   module _ {ok : Bool} (g : i < b) (e : ok ≡ f i) where

@@ -7,7 +7,8 @@ use native.Mathlib.Omega.{arith}
 use lib.Dec.{leb, eqb}
 use lib.ListN.{length, getD}
 use borrow.Author.Tests.{leb-true, eqb-true}
-use Rattle.base.specs.All.{all, all-at}
+use Rattle.base.specs.All.{all}
+use Rattle.base.proofs.All.{all-at}
 use Rattle.model.specs.Limits.{MOST-STOPS, MOST-ROUTES, MOST-POSITIONS, MOST-TRIPS, MOST-STOP-TIMES}
 use Rattle.model.specs.Limits.{MOST-TRANSFERS, MOST-WALKS, MOST-AREAS, MOST-AREA-ENTRIES}
 use Rattle.repository.specs.Sections.{start, size, sec, stops, routes, trips, areas, rows, STOP-LIST, STATIONS}

@@ -8,8 +8,9 @@ use native.Mathlib.Omega.{arith}
 use lib.Dec.{leb, eqb}
 use lib.ListN.{getD}
 use borrow.Author.Tests.{le-leb, leb-true, eq-eqb, eqb-true}
-use Rattle.base.specs.Choice.{split, and-left, and-right}
-use Rattle.base.specs.All.{all, all-at}
+use Rattle.base.proofs.Choice.{split, and-left, and-right}
+use Rattle.base.specs.All.{all}
+use Rattle.base.proofs.All.{all-at}
 use Rattle.shared.specs.Walk.{stretch, Stretch}
 use Rattle.model.specs.Moments.{MAX}
 use Rattle.model.specs.Limits.{LONGEST-SPAN}

@@ -5,7 +5,7 @@ use mathlib.Core.Bool.{Bool, true, false, true≢false}
 use mathlib.Core.Logic.{_↔_}
 use mathlib.Core.List.{List}
 use native.Mathlib.Omega.{arith}
-use Rattle.base.specs.Choice.{split}
+use Rattle.base.proofs.Choice.{split}
 use Rattle.repository.specs.NetOf.{netOf}
 use Rattle.repository.specs.Laid.{laid, Laid}
 use Rattle.repository.specs.Listed.{listed}

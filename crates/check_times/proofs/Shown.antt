@@ -8,7 +8,7 @@ use native.Mathlib.Numerals.{add-one}
 use lib.Dec.{leb}
 use lib.ListN.{getD}
 use borrow.Author.Tests.{le-leb, lt-leb, leb-true, leb-false}
-use Rattle.base.specs.Choice.{split}
+use Rattle.base.proofs.Choice.{split}
 use Rattle.model.specs.Tables.{Net}
 use Rattle.model.specs.Limits.{LAST-MOMENT}
 use Rattle.repository.specs.Checked.{timely, timed, behind, ordered}

@@ -7,7 +7,7 @@ use native.Mathlib.Omega.{arith}
 use native.Mathlib.Numerals.{add-one}
 use lib.Dec.{leb}
 use borrow.Author.Tests.{le-leb, lt-leb}
-use Rattle.base.specs.Choice.{split}
+use Rattle.base.proofs.Choice.{split}
 use Rattle.model.specs.Tables.{Net}
 use Rattle.model.specs.Limits.{LAST-MOMENT}
 use Rattle.repository.specs.Sections.{sec, TIME-STARTS, TIMES, TIME-WORDS, arrivalIn}

@@ -4,7 +4,8 @@ use Prim.Native.Nat.{ℕ, _+_, _≤_, _<_}
 use mathlib.Core.Path.{_≡_, sym, _∙_}
 use mathlib.Core.Bool.{Bool, true, false}
 use native.Mathlib.Omega.{arith}
-use Rattle.base.specs.All.{all, So, so-start, so-on, so-fails, so-passes, all-at}
+use Rattle.base.specs.All.{all, So}
+use Rattle.base.proofs.All.{so-start, so-on, so-fails, so-passes, all-at}
 use Rattle.model.specs.Tables.{Net}
 use Rattle.repository.specs.Checked.{walk}
 use Rattle.check_shape.proofs.Loops.{all-so}

@@ -4,7 +4,7 @@ use mathlib.Core.Path.{_≡_}
 use mathlib.Core.Bool.{Bool, true, false}
 use native.Mathlib.Omega.{arith}
 use native.Mathlib.Decide.{decLt}
-use Rattle.base.specs.Choice.{split}
+use Rattle.base.proofs.Choice.{split}
 use Rattle.base.specs.First.{first}
 
 module _ (t : ℕ → Bool) where

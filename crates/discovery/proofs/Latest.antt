@@ -8,7 +8,7 @@ use mathlib.Core.List.{List, _∷_}
 use native.Mathlib.Omega.{arith}
 use native.Mathlib.Decide.{decLt}
 use borrow.Author.Tests.{lt-leb, le-leb, leb-true, leb-false}
-use Rattle.base.specs.Choice.{split}
+use Rattle.base.proofs.Choice.{split}
 use Rattle.base.specs.First.{first}
 use Rattle.base.specs.Halving.{Rising}
 use Rattle.model.specs.declared.Direction.the-variants.{Arrival}

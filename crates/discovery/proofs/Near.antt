@@ -4,7 +4,8 @@ use mathlib.Core.Path.{_≡_, refl, sym, ap, _∙_, subst}
 use mathlib.Core.Bool.{Bool, true, false, false≢true}
 use mathlib.Core.List.{List}
 use native.Mathlib.Omega.{arith}
-use Rattle.base.specs.Halving.{Bracket, bracket-none, bracket-up, bracket-down, bracket-done}
+use Rattle.base.specs.Halving.{Bracket}
+use Rattle.base.proofs.Halving.{bracket-none, bracket-up, bracket-down, bracket-done}
 use Rattle.model.specs.Tables.{Net}
 use Rattle.repository.specs.Accepted.{Accepted}
 use Rattle.repository.specs.Laid.{Laid}

@@ -7,7 +7,7 @@ use mathlib.Core.Logic.{_⊎_, inl, inr}
 use mathlib.Core.Option.{Option, some, none}
 use mathlib.Core.List.{List, [], _∷_, _++_}
 use lib.ListN.{getD, set}
-use Rattle.base.specs.Choice.{cond-elim}
+use Rattle.base.proofs.Choice.{cond-elim}
 use Rattle.model.specs.declared.Aboard.{Aboard}
 use Rattle.model.specs.declared.Aboard.the-variants.{On, Off}
 use Rattle.model.specs.declared.Direction.{Direction}

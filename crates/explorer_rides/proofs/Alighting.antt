@@ -4,7 +4,7 @@ use mathlib.Core.Path.{_≡_, refl, sym, _∙_}
 use mathlib.Core.Bool.{Bool, true, false, cond, _&&_}
 use mathlib.Core.List.{List}
 use lib.ListN.{getD}
-use Rattle.base.specs.Choice.{and-left}
+use Rattle.base.proofs.Choice.{and-left}
 use Rattle.model.specs.declared.Direction.{Direction}
 use Rattle.model.specs.declared.Leg.{Leg}
 use Rattle.model.specs.Moments.{MAX, better, ahead}

@@ -7,7 +7,7 @@ use native.Mathlib.Omega.{arith}
 use native.Mathlib.Decide.{decLt}
 use lib.Dec.{eqb}
 use lib.ListN.{length}
-use Rattle.base.specs.Choice.{cond-elim}
+use Rattle.base.proofs.Choice.{cond-elim}
 use Rattle.model.specs.declared.Query.{Query}
 use Rattle.repository.specs.Checked.{checkOf}
 use Rattle.check_tables.proofs.Whole.{check-most}

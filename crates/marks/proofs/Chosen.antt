@@ -9,7 +9,7 @@ use native.Mathlib.Numerals.{add-one}
 use native.Mathlib.Omega.{arith}
 use borrow.Author.Tests.{ltb-true, ltb-false}
 use lib.Dec.{ltb}
-use Rattle.base.specs.Choice.{split}
+use Rattle.base.proofs.Choice.{split}
 use Rattle.marks.specs.Marks.{keep, chosenFrom, chosen, firstOf}
 use Rattle.marks.specs.declared.Next.the-variants.{At, Nothing}
 

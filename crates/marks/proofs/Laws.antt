@@ -9,8 +9,8 @@ use borrow.Author.Tests.{ltb-true, ltb-false, eqb-true, eqb-false}
 use lib.Dec.{eqb, ltb}
 use lib.ListN.{length, replicate, getD-replicate, length-set}
 use lib.Seq.{getD-set-same, getD-set-other}
-use Rattle.base.specs.Choice.{split}
-use Rattle.base.specs.Bits.{bit-zero, or-same, or-other}
+use Rattle.base.proofs.Choice.{split}
+use Rattle.base.proofs.Bits.{bit-zero, or-same, or-other}
 use Rattle.marks.specs.Marks.{marked, withMark, keep, chosen, firstOf}
 use Rattle.marks.specs.declared.Next.the-variants.{At, Nothing}
 use Rattle.marks.proofs.Chosen.{Clear, clear-empty, clear-join, chosen-end, chosen-step, chosen-first}

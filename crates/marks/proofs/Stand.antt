@@ -8,7 +8,7 @@ use native.Mathlib.Omega.{arith}
 use borrow.Author.Tests.{eqb-true, eqb-false}
 use lib.Dec.{eqb}
 use lib.ListN.{length}
-use Rattle.base.specs.Choice.{split}
+use Rattle.base.proofs.Choice.{split}
 use Rattle.marks.specs.Marks.{marked, withMark, Stand}
 use Rattle.marks.proofs.Laws.{mark-length, mark-same, mark-other}
 

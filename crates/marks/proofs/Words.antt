@@ -10,7 +10,8 @@ use lib.Dec.{eqb}
 use lib.Pow.{pow-mono, shr-le}
 use lib.ListN.{getD}
 use lib.Count.{trailingZeros}
-use Rattle.base.specs.Bits.{bit, bit-shr, bit-zero, bit-high, trailing-below, trailing-at}
+use Rattle.base.specs.Bits.{bit}
+use Rattle.base.proofs.Bits.{bit-shr, bit-zero, bit-high, trailing-below, trailing-at}
 use Rattle.marks.specs.Marks.{marked, stops, firstOf}
 use Rattle.marks.specs.declared.Next.the-variants.{At, Nothing}
 use Rattle.marks.proofs.Chosen.{Clear, clear-join, clear-less, first-none, first-at}

@@ -8,7 +8,7 @@ use mathlib.Core.List.{List, [], _∷_, List·Memᴰ, List·Memᴰ·head, List·
 use native.Mathlib.Omega.{arith}
 use lib.ListN.{length}
 use borrow.Author.Tests.{ltb-true}
-use Rattle.base.specs.Choice.{split, and-left, and-right}
+use Rattle.base.proofs.Choice.{split, and-left, and-right}
 use Rattle.base.specs.Each.{Each, nil, cons}
 use Rattle.model.specs.declared.Answer.the-variants.{Refused}
 use Rattle.model.specs.declared.Location.{Location}

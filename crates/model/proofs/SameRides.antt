@@ -6,7 +6,7 @@ use mathlib.Core.List.{List}
 use native.Mathlib.Omega.{arith}
 use native.Mathlib.Decide.{decLt}
 use lib.ListN.{getD}
-use Rattle.base.specs.Choice.{cond-elim}
+use Rattle.base.proofs.Choice.{cond-elim}
 use Rattle.base.specs.Each.{Each, nil, cons}
 use Rattle.model.specs.declared.Aboard.{Aboard}
 use Rattle.model.specs.declared.Aboard.the-variants.{On, Off}

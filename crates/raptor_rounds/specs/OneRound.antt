@@ -6,7 +6,8 @@ use mathlib.Core.List.{List, [], _∷_, List·Memᴰ, List·Memᴰ·head, List·
 use native.Mathlib.Omega.{arith}
 use native.Mathlib.Nat.{mul-le-mul-right}
 use lib.ListN.{length, getD}
-use Rattle.base.specs.Each.{Each, nil, cons, each-mem}
+use Rattle.base.specs.Each.{Each, nil, cons}
+use Rattle.base.proofs.Each.{each-mem}
 use Rattle.model.specs.declared.Direction.{Direction}
 use Rattle.model.specs.declared.Mode.{Mode}
 use Rattle.model.specs.declared.Target.{Target}

@@ -5,9 +5,11 @@ use mathlib.Core.Logic.{_≢_}
 use mathlib.Core.List.{List, _++_}
 use native.Mathlib.Omega.{arith}
 use lib.ListN.{length, getD}
-use Rattle.base.specs.Choice.{cond-elim}
-use Rattle.base.specs.Each.{Each, nil, cons, each-append, each-map, each-both}
-use Rattle.base.specs.Distinct.{Distinct, empty, front, distinct-short}
+use Rattle.base.proofs.Choice.{cond-elim}
+use Rattle.base.specs.Each.{Each, nil, cons}
+use Rattle.base.proofs.Each.{each-append, each-map, each-both}
+use Rattle.base.specs.Distinct.{Distinct, empty, front}
+use Rattle.base.proofs.Distinct.{distinct-short}
 use Rattle.model.specs.Lists.{gather}
 use Rattle.model.specs.Tables.{Net}
 use Rattle.model.specs.Places.{servedOf, stopsOfArea}

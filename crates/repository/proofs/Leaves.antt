@@ -5,7 +5,8 @@ use mathlib.Core.List.{List}
 use native.Mathlib.Omega.{arith}
 use native.Mathlib.Nat.{add-assoc}
 use lib.ListN.{length, take, drop}
-use Rattle.base.specs.Tab.{tab, tab-part}
+use Rattle.base.specs.Tab.{tab}
+use Rattle.base.proofs.Tab.{tab-part}
 use Rattle.repository.specs.Sections.{start, sec, SECTIONS}
 use Rattle.repository.specs.Laid.{Laid}
 use Rattle.repository.specs.Entries.{Entry, Part}

@@ -7,7 +7,7 @@ use mathlib.Core.List.{List}
 use native.Mathlib.Omega.{arith}
 use lib.Dec.{eqb}
 use borrow.Author.Tests.{eqb-false}
-use Rattle.base.specs.Choice.{split}
+use Rattle.base.proofs.Choice.{split}
 use Rattle.shared.proofs.Span.{span-most}
 use Rattle.model.specs.Moments.{MAX}
 use Rattle.model.specs.Spans.{transferSpan, walkSpan}

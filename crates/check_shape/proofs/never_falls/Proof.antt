@@ -1,7 +1,8 @@
 -- `never_falls`: the loop stops at the first word that falls.
 use borrow.Author.Needs.{needs}
 use Prim.Native.Nat.{_-_}
-use Rattle.base.specs.All.{So, so-start}
+use Rattle.base.specs.All.{So}
+use Rattle.base.proofs.All.{so-start}
 use Rattle.check_shape.specs.Shape.{noFall}
 use Rattle.check_shape.proofs.Loops.{loop-on, loop-fails, loop-passes}
 use Rattle.check_shape.proofs.Tests.{no-fall, a-fall}

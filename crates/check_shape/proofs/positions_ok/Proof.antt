@@ -1,7 +1,8 @@
 -- `positions_ok`: the loop stops at the first route that does not pass.
 use borrow.Author.Needs.{needs}
 use Prim.Native.Nat.{_-_}
-use Rattle.base.specs.All.{So, so-start}
+use Rattle.base.specs.All.{So}
+use Rattle.base.proofs.All.{so-start}
 use Rattle.check_shape.specs.Shape.{routeFits}
 use Rattle.check_shape.proofs.Loops.{loop-on, loop-fails, loop-passes}
 use Rattle.check_shape.proofs.Tests.{positioned-is}

@@ -1,7 +1,8 @@
 -- `first_between`: all trips before `lo` arrive before x, and none from `hi` on does.
 use borrow.Author.Needs.{needs}
 use Prim.Native.Nat.{_-_, _≤_}
-use Rattle.base.specs.Halving.{Bracket, bracket-done}
+use Rattle.base.specs.Halving.{Bracket}
+use Rattle.base.proofs.Halving.{bracket-done}
 use Rattle.repository.specs.NetOf.{netOf}
 use Rattle.discovery.specs.Trips.{notBefore, firstNotBefore}
 use Rattle.discovery.proofs.Quarters.{low-from, low-mid, mid-high, low-below, mid-below, high-below, low-in, mid-in, high-in}

@@ -7,7 +7,7 @@ use lib.ListN.{getD}
 use lib.Bits.{and-mask}
 use denote.Ref.{now}
 use borrow.Author.Needs.{needs}
-use Rattle.base.specs.Bits.{bit-is}
+use Rattle.base.proofs.Bits.{bit-is}
 use Rattle.marks.specs.Marks.{marked}
 use Rattle.marks.proofs.is_marked.Statement.{statement}
 use Rattle.marks.proofs.is_marked.Tie as tie

@@ -2,7 +2,8 @@
 use borrow.Author.Needs.{needs}
 use Rattle.arguments.proofs.Digits.{all-is, at-digit}
 use Rattle.arguments.specs.Digits.{digitAt}
-use Rattle.base.specs.All.{So, so-start, so-on, so-fails, so-passes}
+use Rattle.base.specs.All.{So}
+use Rattle.base.proofs.All.{so-start, so-on, so-fails, so-passes}
 use Prim.Native.Nat.{_-_}
 use Rattle.arguments.proofs.bytes.are_digits.Statement.{statement}
 use Rattle.arguments.proofs.bytes.are_digits.Tie as tie

@@ -2,7 +2,8 @@
 use borrow.Author.Needs.{needs}
 use Rattle.arguments.proofs.Word.{same-at, other-at, begins-short, begins-is}
 use Rattle.arguments.specs.Word.{sameAt}
-use Rattle.base.specs.All.{So, so-start, so-on, so-fails, so-passes}
+use Rattle.base.specs.All.{So}
+use Rattle.base.proofs.All.{so-start, so-on, so-fails, so-passes}
 use lib.ListN.{length}
 use Prim.Native.Nat.{_-_, _≤_}
 use Rattle.arguments.proofs.bytes.begins_with.Statement.{statement}

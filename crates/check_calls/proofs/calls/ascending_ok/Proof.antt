@@ -1,7 +1,8 @@
 -- `ascending_ok`: the calls that are left decide.
 use borrow.Author.Needs.{needs}
 use Prim.Native.Nat.{_+_, _-_, _≤_}
-use Rattle.base.specs.All.{So, so-start}
+use Rattle.base.specs.All.{So}
+use Rattle.base.proofs.All.{so-start}
 use Rattle.repository.specs.Listed.{later}
 use Rattle.check_calls.proofs.Rooms.{row-in}
 use Rattle.check_calls.proofs.Turns.{turn-on}

@@ -1,7 +1,8 @@
 -- `calls_all_ok`: the routes that are left decide, and the positions left of one.
 use borrow.Author.Needs.{needs}
 use Prim.Native.Nat.{_-_}
-use Rattle.base.specs.All.{So, so-start}
+use Rattle.base.specs.All.{So}
+use Rattle.base.proofs.All.{so-start}
 use Rattle.repository.specs.Sections.{routes}
 use Rattle.repository.specs.Listed.{called, calledAlong, callsAll}
 use Rattle.check_calls.proofs.Entries.{route-entry}

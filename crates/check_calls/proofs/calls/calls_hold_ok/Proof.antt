@@ -1,7 +1,8 @@
 -- `calls_hold_ok`: the stops that are left decide, and the calls left of one.
 use borrow.Author.Needs.{needs}
 use Prim.Native.Nat.{_-_}
-use Rattle.base.specs.All.{So, so-start}
+use Rattle.base.specs.All.{So}
+use Rattle.base.proofs.All.{so-start}
 use Rattle.repository.specs.Sections.{stops, CALL-STARTS}
 use Rattle.repository.specs.Listed.{under, call, callsHold}
 use Rattle.check_calls.proofs.Rooms.{row-in}

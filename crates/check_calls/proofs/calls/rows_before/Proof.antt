@@ -1,7 +1,8 @@
 -- `rows_before`: the rows before `lo` name earlier routes, and `hi` does not.
 use borrow.Author.Needs.{needs}
 use Prim.Native.Nat.{_-_}
-use Rattle.base.specs.Halving.{Bracket, bracket-none, bracket-up, bracket-down, mid-low, mid-high}
+use Rattle.base.specs.Halving.{Bracket}
+use Rattle.base.proofs.Halving.{bracket-none, bracket-up, bracket-down, mid-low, mid-high}
 use Rattle.check_calls.specs.Reached.{reached}
 use Rattle.check_calls.proofs.Halved.{route-before, route-reached, bracket-shut}
 use Rattle.check_calls.proofs.calls.rows_before.Statement.{statement}

@@ -1,7 +1,8 @@
 -- `passed`: no call before row j names a route with a trip.
 use borrow.Author.Needs.{needs}
 use Prim.Native.Nat.{_-_, _≤_}
-use Rattle.base.specs.All.{So, so-start}
+use Rattle.base.specs.All.{So}
+use Rattle.base.proofs.All.{so-start}
 use Rattle.repository.specs.Listed.{fails, running}
 use Rattle.check_calls.proofs.Entries.{call-word, call-entry}
 use Rattle.check_calls.proofs.Loops.{none-runs, one-runs, runs-on}

@@ -1,7 +1,8 @@
 -- `served_ok`: the stops that are left decide.
 use borrow.Author.Needs.{needs}
 use Prim.Native.Nat.{_-_}
-use Rattle.base.specs.All.{So, so-start}
+use Rattle.base.specs.All.{So}
+use Rattle.base.proofs.All.{so-start}
 use Rattle.repository.specs.Sections.{stops}
 use Rattle.repository.specs.Listed.{servedMark, served}
 use Rattle.check_calls.proofs.Turns.{done, turn-on, turn-off}

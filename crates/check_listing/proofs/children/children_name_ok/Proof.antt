@@ -1,7 +1,8 @@
 -- `children_name_ok`: the stations that are left decide, and the children left of one.
 use borrow.Author.Needs.{needs}
 use Prim.Native.Nat.{_-_}
-use Rattle.base.specs.All.{So, so-start}
+use Rattle.base.specs.All.{So}
+use Rattle.base.proofs.All.{so-start}
 use Rattle.repository.specs.Sections.{stops, CHILD-STARTS}
 use Rattle.repository.specs.Listed.{under, child, childrenName}
 use Rattle.check_calls.proofs.Rooms.{row-in}

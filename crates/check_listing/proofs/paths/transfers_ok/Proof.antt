@@ -1,7 +1,8 @@
 -- `transfers_ok`: the stops that are left decide, and the transfers left of one.
 use borrow.Author.Needs.{needs}
 use Prim.Native.Nat.{_-_}
-use Rattle.base.specs.All.{So, so-start}
+use Rattle.base.specs.All.{So}
+use Rattle.base.proofs.All.{so-start}
 use Rattle.repository.specs.Sections.{stops, TRANSFER-STARTS}
 use Rattle.repository.specs.Listed.{under, transfer, transfers}
 use Rattle.check_calls.proofs.Rooms.{row-in}

@@ -1,7 +1,8 @@
 -- `trip_times_ok`: the routes that are left decide, and the trips left of one.
 use borrow.Author.Needs.{needs}
 use Prim.Native.Nat.{_-_}
-use Rattle.base.specs.All.{So, so-start}
+use Rattle.base.specs.All.{So}
+use Rattle.base.proofs.All.{so-start}
 use Rattle.repository.specs.Sections.{routes, ROUTE-TRIP-STARTS}
 use Rattle.repository.specs.Listed.{under, timeEach, tripTimes}
 use Rattle.check_calls.proofs.Rooms.{row-in}

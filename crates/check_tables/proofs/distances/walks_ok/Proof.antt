@@ -1,7 +1,8 @@
 -- `walks_ok`: the loop stops at the first row that does not pass.
 use borrow.Author.Needs.{needs}
 use Prim.Native.Nat.{_-_}
-use Rattle.base.specs.All.{So, so-start}
+use Rattle.base.specs.All.{So}
+use Rattle.base.proofs.All.{so-start}
 use Rattle.check_shape.proofs.Loops.{loop-on, loop-fails, loop-passes}
 use Rattle.check_tables.specs.Distances.{walkFit}
 use Rattle.check_tables.proofs.distances.walks_ok.Statement.{statement}
