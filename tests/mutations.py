@@ -1,6 +1,6 @@
 #!/usr/bin/env python3
 # A test of the tests: a copy of the tree is damaged in each way in which a page could come to say more than is so, and tests/promises.py,
-# tests/functions.py or tools/letter.py must complain. Where a page is made from the tree it is made anew first, as a hurried hand would.
+# tests/functions.py, tests/edits.py, tests/times.py or tools/letter.py must complain. Where a page is made from the tree it is made anew first, as a hurried hand would.
 import concurrent.futures, glob, os, re, shutil, subprocess, sys, tempfile
 
 HERE = os.path.abspath(os.path.join(os.path.dirname(os.path.abspath(__file__)), ".."))
@@ -8,6 +8,7 @@ PAGE, COPIES, LIST, LISTS, LETTER = "docs/PROMISES.md", "docs/STATEMENTS.md", "t
 PROMISES, FUNCTIONS, SIGNED = ["tests/promises.py"], ["tests/functions.py", "check"], ["tools/letter.py", "check"]
 RULES, LAYOUT = ["tests/house.py"], ["tests/tables.py"]
 TABLES, SECTIONS, LIMITS = "docs/TABLES.md", "crates/repository/specs/Sections.antt", "crates/model/specs/Limits.antt"
+EDITS, TIMED, TIMES = ["tests/edits.py", "before"], ["tests/times.py", "check"], "docs/CHECK-TIMES.md"
 WORKERS = 2
 room, touched = None, {}
 
@@ -201,6 +202,12 @@ def first_line_gone():
     write(file, read(file).split("\n", 1)[1])
 
 
+def part_added(file, old, new):
+    """One more part of an edit of `shared`."""
+    path = "crates/shared/must-fail/parts.edit"
+    return lambda: write(path, read(path) + f"part: one_more\nfile: {file}\nold: {old}\nnew: {new}\n")
+
+
 # what is done; whether the pages are made anew after it; the test that must complain; what it must say
 MUTATIONS = [
     ("a public function that returns a slice and states nothing", added(LIB, "pub fn part(words: &[u32]) -> &[u32] {\n    words\n}\n"), True, FUNCTIONS, "allocator::part states nothing"),
@@ -257,6 +264,12 @@ MUTATIONS = [
     ("a file more to be believed", believed_unlisted, False, PROMISES, "what must be believed is not what is counted"),
     ("more taken from the kit", lambda: sub("crates/model/specs/Spans.antt", "\nuse ", "\nuse lib.Perm.{perm}\nuse "), False, PROMISES, "what is taken from the kit"),
     ("a crate that the map leaves out", lambda: sub("README.md", "| `marks` |", "| marks |"), False, PROMISES, "the map leaves out marks"),
+    ("two parts of an edit that change one function", part_added("src/lib.rt", "bits % 0x8000_0000", "bits % 0x8000_0001"), False, EDITS, "one_more changes the same"),
+    ("a part that changes what the others speak of", part_added("specs/Walk.antt", "zero = ", "zero = suc "), False, EDITS, "it cannot be refused by itself"),
+    ("a part that changes a type", part_added("src/lib.rt", "pub struct Time(pub u32);", "pub struct Time(pub u64);"), False, EDITS, "it changes more than"),
+    ("a third file of edits", lambda: write("crates/marks/must-fail/third.edit", read("crates/marks/must-fail/skips_a_word.edit")), False, TIMED, "marks has 3 files of edits"),
+    ("a crate that takes too long", lambda: write(TIMES, re.sub(r"^\| marks \| \d+ ", "| marks | 99 ", read(TIMES), flags=re.M)), False, TIMED, "marks takes 99 seconds"),
+    ("more minutes than the gate may take", lambda: write(TIMES, re.sub(r"may take \*\*\d+", "may take **9", read(TIMES))), False, TIMED, "and may take 9"),
     ("code changed after the letter was filled in", lambda: sub(LIB, "\n}\n", "\n}\n\n"), True, SIGNED, "the sum of the text is not this tree's"),
     ("a proof more after the letter was filled in", lambda: write("crates/model/proofs/More.antt", "-- one more\n"), True, SIGNED, "the sum of the text is not this tree's"),
     ("a letter without its archive's sum", lambda: write(LETTER, re.sub(r"(libkiosk_c\.a` \| `)[0-9a-f]+", r"\1", read(LETTER))), True, SIGNED, "it does not name the sum of the library"),
@@ -329,7 +342,7 @@ def try_some(ways):
                 missed.append(f"not noticed: {what}\n{said}")
             put_back()
         if 0 in ways:  # the tree as it is passes
-            missed += [f"with nothing damaged, {words[0]} says\n{said}" for words in (PROMISES, FUNCTIONS, SIGNED) for status, said in [run(*words)] if status != 0]
+            missed += [f"with nothing damaged, {words[0]} says\n{said}" for words in (PROMISES, FUNCTIONS, EDITS, TIMED, SIGNED) for status, said in [run(*words)] if status != 0]
     finally:
         shutil.rmtree(os.path.dirname(room))
     return missed
