@@ -1,33 +1,145 @@
 #!/usr/bin/env python3
 # times.py LOG: writes docs/CHECK-TIMES.md from what `./test` said on this machine (`./test > LOG 2>&1`; with `time` before it the whole is taken too).
-import os, re, sys
+# times.py check: holds the page and the tree to the rule that the page states. Nothing of it depends on the machine that it runs on.
+# times.py warn LOG: says where this run went beyond the rule. It never fails: seconds are not the same on every machine and in every run.
+import glob, math, os, re, statistics, sys
 
-log = open(sys.argv[1], encoding="utf-8").read()
+PAGE, MOST, FILES, SLOWER = "docs/CHECK-TIMES.md", 25, 2, {"x86-64": 1, "Arm": 1.58}
+# The crates that were there when the rule was made, and may take longer than a new one. The minutes of all bound them.
+OLD = "allocator explorer_rides raptor_rounds raptor kiosk_c replay check_listing telling kiosk".split()
+# The crates with more files of edits than two: how many, and why. None may have more than is said here.
+MORE = {
+    "model": (50, "edits of definitions: every worked network runs the whole search, so a refusal does not tell which of two is meant; a check takes 5 seconds"),
+    "explorer": (3, "three edits of one file of definitions; a check takes 2 seconds"),
+    "shared": (3, "three edits of distance_ok; a check takes 3 seconds"),
+    "raptor_reply": (4, "four edits of its one function; a check takes 5 seconds"),
+    "path": (3, "two edits of one definition, of which what is left speaks too"),
+    "check_listing": (3, "two edits of marked_once, and one of a definition of which it speaks"),
+    "check_tables": (4, "three edits of time_ok, and one of a definition of which it speaks"),
+}
 os.chdir(os.path.join(os.path.dirname(os.path.abspath(__file__)), ".."))
-crates = [line.split(":")[0].strip() for line in open("crates.txt") if ":" in line and not line.startswith("#")]
-proved = {name: int(s) for name, s in re.findall(r"^rt: (\w+) proved \((\d+) s\)", log, re.M)}
-edits = re.findall(r"^rt: must-fail (\w+)/\w+: refused.*?(\d+) s\)", log, re.M)
-last = re.findall(r"^\d+ passed, \d+ failed$", log, re.M)
-whole = re.search(r"^real\s+(\d+)m", log, re.M)
-rows, all_edits = [], 0
-for name in crates:
-    own = [int(s) for crate, s in edits if crate == name]
-    all_edits += sum(own)
-    rows.append(f"| {name} | {proved.get(name, '')} | {len(own)} | {sum(own) or ''} |")
-machine = {"x86_64": "x86-64", "aarch64": "Arm"}.get(os.uname().machine, os.uname().machine)
-took = f"{whole.group(1)} minutes" if whole else "an unmeasured time"
-page = f"""# Check times
 
-The seconds that `rt ci` gave for each crate on {os.cpu_count()} cores ({machine}), two crates side by side. A must-fail edit costs its crate's whole check again:
-the {len(edits)} edits take {all_edits // 60} minutes of one core, the {len(rows)} crates {sum(proved.values()) // 60}. `tests/times.py LOG` makes this page from what `./test` said.
+
+def crates():
+    return [line.split(":")[0].strip() for line in open("crates.txt", encoding="utf-8") if re.match(r"\w+:", line)]
+
+
+def edits_of(crate):
+    """How many edits a crate has, and in how many files."""
+    files = [open(p, encoding="utf-8").read() for p in glob.glob(f"crates/{crate}/must-fail/*.edit")]
+    return sum(max(1, len(re.findall(r"^part: ", text, re.M))) for text in files), len(files)
+
+
+def said_by(log):
+    """The seconds of each crate, and of its edits together."""
+    proved = {name: int(s) for name, s in re.findall(r"^rt: (\w+) proved \((\d+) s\)", log, re.M)}
+    edits = {}
+    for name, s in re.findall(r"^rt: must-fail (\w+)/\w+: refused.*?(\d+) s\)", log, re.M):
+        edits[name] = edits.get(name, 0) + int(s)
+    return proved, edits
+
+
+def on_page(page):
+    """What the page has: the seconds of each crate and of its edits, the processor, the minutes that the gate may take."""
+    rows = re.findall(r"^\| (\w+) \| (\d*) \| \d+ \| \d+ \| (\d*) \|$", page, re.M)
+    kind = re.search(r"cores \(([^)]*)\)", page)
+    may = re.search(r"may take \*\*(\d+)\*\* minutes of one core", page)
+    return {n: int(s or 0) for n, s, e in rows}, {n: int(e or 0) for n, s, e in rows}, kind and kind.group(1), may and int(may.group(1))
+
+
+def written(log):
+    proved, edits = said_by(log)
+    last = re.findall(r"^\d+ passed, \d+ failed$", log, re.M)
+    whole = re.search(r"^real\s+(\d+)m", log, re.M)
+    machine = {"x86_64": "x86-64", "aarch64": "Arm"}.get(os.uname().machine, os.uname().machine)
+    slower = SLOWER.get(machine, 1)
+    seconds, extra = sum(proved.values()), sum(edits.values())
+    total = (seconds + extra) / 60 / slower
+    may = on_page(open(PAGE, encoding="utf-8").read())[3]
+    may = min(may or 999, math.ceil(total) + 1)  # it goes down by itself, and up by hand
+    counts = {name: edits_of(name) for name in crates()}
+    rows = "\n".join(f"| {n} | {proved.get(n, '')} | {counts[n][0]} | {counts[n][1]} | {edits.get(n) or ''} |" for n in crates())
+    took = f"{whole.group(1)} minutes" if whole else "an unmeasured time"
+    more = "\n".join(f"| `{n}` | {count} | {why} |" for n, (count, why) in MORE.items())
+    page = f"""# Check times
+
+The seconds that `rt ci` gave for each crate on {os.cpu_count()} cores ({machine}), two crates side by side. A file of must-fail edits costs its crate's whole check
+again: the {sum(c[0] for c in counts.values())} edits, in {sum(c[1] for c in counts.values())} files, take {extra // 60} minutes of one core, the {len(counts)} crates {seconds // 60}. `tests/times.py LOG` makes this page from what `./test` said.
 [README.md](../README.md) leads to the other pages; [BENCHMARKS.md](BENCHMARKS.md) has the times of the search itself.
 
-| crate | seconds | must-fail edits | seconds of them all |
-|---|---|---|---|
-""" + "\n".join(rows) + f"""
+| crate | seconds | must-fail edits | files of them | seconds of them all |
+|---|---|---|---|---|
+{rows}
 
-The gate, `./test` in a fresh clone, took {took} on that machine: `{last[-1] if last else 'not ended'}`. It must end within 90 minutes; it
-is to stay under 40. Every crate is proved once, by `rt ci`; what is then compared with the Rust, plain C and bad input is what was proved.
+The gate, `./test` in a fresh clone, took {took} on that machine: `{last[-1] if last else 'not ended'}`. It must end within 90 minutes. Every crate is
+proved once, by `rt ci`; what is then compared with the Rust, plain C and bad input is what was proved.
+
+## The rule
+
+1. A new crate takes at most {MOST} seconds on x86-64. The crates that were there before may take longer: {', '.join(f'`{n}`' for n in OLD)}.
+2. The edits of a crate stand in at most two files, `parts.edit` and `parts_2.edit`, each edit under a line `part: NAME`. A refusal of its own must tell each
+   part from the others of its file (`tests/edits.py`): so a file has at most one edit of a function, and an edit of a definition only beside functions
+   that do not speak of it. The crates that have more files, and may not have more than this:
+
+| crate | files | why |
+|---|---|---|
+{more}
+
+3. The crates and the edits may take **{may}** minutes of one core, on x86-64, as the table above counts them. A request may add 2 at most, by hand; where a
+   page made anew comes to less, the number goes down with it. After all fourteen requests the gate is to stay under 45 minutes on two cores.
+
+Seconds are not the same on every machine: Arm takes {SLOWER['Arm']} times as long, and other work on the machine more. So `tests/times.py check`, which the gate runs
+first, holds the rule over this page and the tree's files, and not over its own clock: who adds a crate makes the page anew from a quiet run, and then it
+stands by these numbers. After `rt ci` the gate says where its own run went beyond them, measured by the crates that the page knows, and goes on.
 """
-open("docs/CHECK-TIMES.md", "w", encoding="utf-8").write(page)
-print(f"{len(rows)} crates, {len(edits)} edits, {took}")
+    with open(PAGE, "w", encoding="utf-8") as f:
+        f.write(page)
+    print(f"{len(counts)} crates, {sum(c[1] for c in counts.values())} files of edits, {total:.1f} minutes of one core of {may}, {took}")
+
+
+def check():
+    wrong = []
+    proved, edits, kind, may = on_page(open(PAGE, encoding="utf-8").read())
+    slower = SLOWER.get(kind, 1)
+    for name in crates():
+        files = edits_of(name)[1]
+        most = MORE.get(name, (FILES, ""))[0]
+        if files > most:
+            wrong.append(f"{name} has {files} files of edits, and may have {most}: put those of single functions together (part: NAME)")
+        elif name in MORE and files < most:
+            wrong.append(f"tests/times.py: {name} has {files} files of edits, not {most}: say so, or take it off the list")
+        if proved.get(name, 0) > MOST * slower and name not in OLD:
+            wrong.append(f"{PAGE}: {name} takes {proved[name]} seconds, and a new crate may take {MOST * slower:.0f}")
+    wrong += [f"tests/times.py: there is no crate {name}" for name in sorted({*OLD, *MORE} - set(crates()))]
+    total = (sum(proved.values()) + sum(edits.values())) / 60 / slower
+    if may is None:
+        wrong.append(f"{PAGE}: it does not say how many minutes the gate may take")
+    elif total > may:
+        wrong.append(f"{PAGE}: the crates and edits take {total:.1f} minutes of one core, and may take {may}")
+    for w in wrong:
+        print(w)
+    print(f"check times: {total:.1f} minutes of one core of {may}, {len(wrong)} wrong")
+    return len(wrong) > 0
+
+
+def warn(log):
+    proved, edits = said_by(log)
+    was, was_edits, kind, may = on_page(open(PAGE, encoding="utf-8").read())
+    known = [proved[n] / was[n] for n in proved if was.get(n, 0) >= 5]
+    pace = (statistics.median(known) if known else 1) * SLOWER.get(kind, 1)  # how much slower this run is than a quiet one on x86-64
+    for name in crates():
+        if name not in was:
+            print(f"{PAGE} does not know {name}: tests/times.py LOG")
+        if proved.get(name, 0) / pace > MOST and name not in OLD:
+            print(f"{name} took {proved[name]} seconds, {proved[name] / pace:.0f} at the page's pace: a new crate may take {MOST}")
+    total = (sum(proved.values()) + sum(edits.values())) / 60
+    if may and total / pace > may:
+        print(f"the crates and edits took {total:.1f} minutes of one core, {total / pace:.1f} at the page's pace: they may take {may}")
+    print(f"check times: {total:.1f} minutes of one core, {total / pace:.1f} at the page's pace")
+
+
+if __name__ == "__main__":
+    if sys.argv[1:] == ["check"]:
+        sys.exit(check())
+    text = open(sys.argv[-1], encoding="utf-8").read()
+    warn(text) if sys.argv[1] == "warn" else written(text)
