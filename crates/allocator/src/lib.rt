@@ -35,6 +35,13 @@ pub enum Parent {
     Nothing,
 }
 
+// What a proposal offers: the stop is reached at the moment by the leg.
+pub struct Offer {
+    pub stop: u32,
+    pub moment: Time,
+    pub leg: Leg,
+}
+
 // ---- words
 
 // Writes v to the words from a up to below e.
@@ -492,14 +499,17 @@ fn put_leg(words: &mut [u32], i: usize, g: Leg)
     words[i + 5] = g.arrival.0;
 }
 
-// Stop s is reached at moment t by the leg g, in round k.
-fn store(words: &mut [u32], marks: &mut [u64], n: u32, m: u32, k: u32, s: u32, t: Time, g: Leg)
+// The stop is reached so in round k.
+fn store(words: &mut [u32], marks: &mut [u64], n: u32, m: u32, k: u32, o: Offer)
     requires { ⌜ Usable n m (now words) (now marks) ⌝ }
-    requires { ⌜ s < n ⌝ }
+    requires { ⌜ o .stop < n ⌝ }
     requires { ⌜ k < 15 ⌝ }
-    ensures { λ _. ⌜ Does n m (stored (k * n) s (t .0) g)
+    ensures { λ _. ⌜ Does n m (stored (k * n) (o .stop) (o .moment .0) (o .leg))
         (now (words .entry)) (now (marks .entry)) (now (words .exit)) (now (marks .exit)) ⌝ }
 {
+    let s = o.stop;
+    let t = o.moment;
+    let g = o.leg;
     let a = n as usize + s as usize;
     let b = 2 * (n as usize) + s as usize;
     let i = row_at(n, m, k, s);
@@ -509,26 +519,16 @@ fn store(words: &mut [u32], marks: &mut [u64], n: u32, m: u32, k: u32, s: u32, t
     marks::set_mark(marks, s as usize);
 }
 
-// The same where t is strictly better than the best moment of s: a tie keeps the parent.
-pub fn apply(
-    words: &mut [u32],
-    marks: &mut [u64],
-    n: u32,
-    m: u32,
-    d: Direction,
-    k: u32,
-    s: u32,
-    t: Time,
-    g: Leg,
-)
+// The same where the moment is strictly better than the best one of the stop: a tie keeps the parent.
+pub fn apply(words: &mut [u32], marks: &mut [u64], n: u32, m: u32, d: Direction, k: u32, o: Offer)
     requires { ⌜ Usable n m (now words) (now marks) ⌝ }
-    requires { ⌜ s < n ⌝ }
+    requires { ⌜ o .stop < n ⌝ }
     requires { ⌜ k < 15 ⌝ }
-    ensures { λ _. ⌜ Does n m (applied d (k * n) s (t .0) g)
+    ensures { λ _. ⌜ Does n m (applied d (k * n) (o .stop) (o .moment .0) (o .leg))
         (now (words .entry)) (now (marks .entry)) (now (words .exit)) (now (marks .exit)) ⌝ }
 {
-    let best = best_at(words, n, m, s);
-    if is_better(d, t, best) {
-        store(words, marks, n, m, k, s, t, g);
+    let best = best_at(words, n, m, o.stop);
+    if is_better(d, o.moment, best) {
+        store(words, marks, n, m, k, o);
     }
 }

@@ -13,6 +13,7 @@ ghost use Rattle.explorer.specs.Fixed.{InRound};
 ghost use Rattle.explorer.specs.Fused.{stopWork, feetWork};
 ghost use Rattle.explorer.specs.Turns.{inTurn};
 ghost use Rattle.explorer_footpaths.specs.Footing.{listingOf, kindOf, footRow, footsOf, Label, Footing, Leaving, footBy};
+use allocator::Offer;
 use explorer::Round;
 use marks::Next;
 use model::Direction;
@@ -148,17 +149,12 @@ fn explore_path(
     if allocator::is_ahead(d, y, round.target) {
         let kind = kind_of(l);
         let g = allocator::leg_of(d, kind, from.stop, from.label, to, y);
-        allocator::apply(
-            words,
-            marks,
-            round.stops,
-            round.routes,
-            d,
-            round.number,
-            to,
-            y,
-            g,
-        );
+        let o = Offer {
+            stop: to,
+            moment: y,
+            leg: g,
+        };
+        allocator::apply(words, marks, round.stops, round.routes, d, round.number, o);
     }
 }
 

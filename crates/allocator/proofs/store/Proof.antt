@@ -9,11 +9,17 @@ use Rattle.allocator.proofs.Operated.{does, does-store}
 use Rattle.allocator.proofs.store.Statement.{statement}
 use Rattle.allocator.proofs.store.Tie as tie
 
+cast-a : tie.Need-cast-a
+cast-a c = search needs
+
 add-a : tie.Need-add-a
 add-a c = search needs
 
 mul-b : tie.Need-mul-b
 mul-b c = search needs
+
+cast-b : tie.Need-cast-b
+cast-b c = search needs
 
 add-b : tie.Need-add-b
 add-b c = search needs
@@ -36,6 +42,9 @@ slice-write-words-2 c = simp length-set (omega arith)
 put-leg-requires : tie.Need-put-leg-requires
 put-leg-requires c κs = simp length-set (omega arith)
 
+cast-set-mark : tie.Need-cast-set-mark
+cast-set-mark c = search needs
+
 set-mark-requires : tie.Need-set-mark-requires
 set-mark-requires c κs = search needs
 
@@ -52,8 +61,10 @@ pub store-spec : {M : Type 1} → statement M
 store-spec =
     tie.close
     (tie.spec
+    cast-a
     add-a
     mul-b
+    cast-b
     add-b
     row-at-requires
     mul-words
@@ -61,6 +72,7 @@ store-spec =
     mul-words-2
     slice-write-words-2
     put-leg-requires
+    cast-set-mark
     set-mark-requires
     same-length
     same-length-2
