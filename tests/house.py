@@ -10,8 +10,6 @@ from reading import HERE, crates, every_function, indent, text_of, there
 
 WIDEST, MOST = 140, 7
 DECISIONS, PROVING = "docs/DECISIONS.md", "docs/PROVING.md"
-# Laws, and no definitions that a contract cites: the one folder of that name that may hold proofs.
-LAWS = "crates/base/specs/"
 # A name that the definitions of these crates share, and why they may. Any other crate's is refused all the same.
 ASKED = "what is asked, as each kind of input says it: the words of the C face, a line of a list, an argument; no file cites two of them"
 TEXT = "of `lines`, which reads a program's input and knows no search; no file cites both"
@@ -114,8 +112,6 @@ def proves(one):
 
 # ==== specs hold definitions and cite no proofs; a contract cites none either
 for path in files("crates/*/specs/**/*.antt"):
-    if path.startswith(LAWS):
-        continue
     for one in declared(path)[0]:
         if one.kind == "law" or proves(one):
             complain(f"{path}, line {one.line}", f"{one.name} is a law or a text that stays shut: definitions are records, data, `abbrev` or `unfoldable`")
