@@ -5,7 +5,7 @@ use mathlib.Core.Bool.{Bool, true, false}
 use mathlib.Core.List.{List, [], _∷_}
 use native.Mathlib.Omega.{arith}
 use lib.Dec.{eqb}
-use lib.ListN.{length, drop, set, length-set}
+use lib.ListN.{length, drop}
 use borrow.Author.Tests.{eq-eqb, ne-eqb}
 use Rattle.model.specs.declared.Answer.{Answer}
 use Rattle.model.specs.declared.Query.{Query}
@@ -18,10 +18,6 @@ use Rattle.raptor.specs.Solved.{Solved}
 use Rattle.raptor.proofs.Promises.{length-most}
 use Rattle.kiosk_words.specs.Words.{toldIn}
 use Rattle.kiosk_c.specs.Face.{shortNumber, Faced}
-
--- a write leaves the length
-pub three-in : {k : ℕ} (i x : ℕ) (l : List ℕ) → 3 ≤ length l → k < 3 → k < length (set l i x)
-three-in i x l h g = omega (arith, length-set l i x)
 
 -- ---- an answer that is too short
 

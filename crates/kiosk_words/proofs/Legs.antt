@@ -3,19 +3,12 @@ use Prim.Native.Nat.{ℕ, zero, suc, _≤_, _<_}
 use mathlib.Core.Path.{_≡_, refl, ap}
 use mathlib.Core.List.{List, [], _∷_}
 use native.Mathlib.Omega.{arith}
-use lib.ListN.{length, drop, set, length-set}
+use lib.ListN.{length, drop, set}
 use Rattle.model.specs.declared.Leg.{Leg}
 use Rattle.model.specs.declared.LegType.{LegType}
 use Rattle.model.specs.declared.LegType.the-variants.{Transit, Transfer, Walk}
 use Rattle.model.specs.Bytes.{kindByte, legSize}
 use Rattle.kiosk_words.specs.Words.{tripWord, legIn}
-
--- a write leaves the length
-pub six-stays : (i x : ℕ) (l : List ℕ) → 6 ≤ length l → 6 ≤ length (set l i x)
-six-stays i x l h = omega (arith, length-set l i x)
-
-pub six-in : {k : ℕ} (i x : ℕ) (l : List ℕ) → 6 ≤ length l → k < 6 → k < length (set l i x)
-six-in i x l h g = omega (arith, length-set l i x)
 
 pub six : (a b c d e f : ℕ) (l : List ℕ) → 6 ≤ length l
     → set (set (set (set (set (set l 0 a) 1 b) 2 c) 3 d) 4 e) 5 f ≡ a ∷ b ∷ c ∷ d ∷ e ∷ f ∷ drop 6 l

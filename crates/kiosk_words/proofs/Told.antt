@@ -3,22 +3,12 @@ use Prim.Native.Nat.{ℕ, zero, suc, _≤_, _<_}
 use mathlib.Core.Path.{_≡_, refl}
 use mathlib.Core.List.{List, [], _∷_}
 use native.Mathlib.Omega.{arith}
-use lib.ListN.{length, drop, set, length-set}
+use lib.ListN.{length, drop, set}
 use Rattle.shared.specs.declared.Time.{Time}
 use Rattle.model.specs.declared.Answer.{Answer}
 use Rattle.model.specs.declared.Answer.the-variants.{Found, Refused, NoRouteFound, FailedToBuildRoute, TooLong}
 use Rattle.model.specs.Answer.{Given, given}
 use Rattle.kiosk_words.specs.Words.{toldIn}
-
--- a write leaves the length
-stays : (n i x : ℕ) (l : List ℕ) → n ≤ length l → n ≤ length (set l i x)
-stays n i x l h = omega (arith, length-set l i x)
-
-pub five-stays : (i x : ℕ) (l : List ℕ) → 5 ≤ length l → 5 ≤ length (set l i x)
-five-stays i x l h = stays 5 i x l h
-
-pub five-in : {k : ℕ} (i x : ℕ) (l : List ℕ) → 5 ≤ length l → k < 5 → k < length (set l i x)
-five-in i x l h g = omega (arith, stays 5 i x l h)
 
 pub five : (a b c d e : ℕ) (l : List ℕ) → 5 ≤ length l
     → set (set (set (set (set l 0 a) 1 b) 2 c) 3 d) 4 e ≡ a ∷ b ∷ c ∷ d ∷ e ∷ drop 5 l

@@ -1,6 +1,6 @@
 -- `kiosk_c::kiosk_room` meets its contract: the three lengths, or the number.
 use borrow.Author.Needs.{needs}
-use Rattle.kiosk_c.proofs.Told.{three-in}
+use Rattle.kiosk_words.proofs.Writes.{in-set}
 use Rattle.kiosk_c.proofs.Rooms.{words-few, marks-few, places-few, no-room, no-room-left, room-number, room-left, refused-number, refused-left}
 use Rattle.kiosk_c.proofs.kiosk_room.Statement.{statement}
 use Rattle.kiosk_c.proofs.kiosk_room.Tie as tie
@@ -24,7 +24,7 @@ cast-room-2 : tie.Need-cast-room-2
 cast-room-2 c = search (needs, marks-few)
 
 slice-write-room-2 : tie.Need-slice-write-room-2
-slice-write-room-2 c = search (needs, three-in)
+slice-write-room-2 c = search (needs, in-set)
 
 cast-room-3 : tie.Need-cast-room-3
 cast-room-3 c = search (needs, places-few)

@@ -1,6 +1,7 @@
 -- `kiosk_words::put_leg` meets its contract: six words, one after the other.
 use borrow.Author.Needs.{needs}
-use Rattle.kiosk_words.proofs.Legs.{six-in, six-stays, six}
+use Rattle.kiosk_words.proofs.Writes.{in-set}
+use Rattle.kiosk_words.proofs.Legs.{six}
 use Rattle.kiosk_words.proofs.put_leg.Statement.{statement}
 use Rattle.kiosk_words.proofs.put_leg.Tie as tie
 
@@ -8,16 +9,16 @@ slice-write-leg : tie.Need-slice-write-leg
 slice-write-leg c = search needs
 
 slice-write-leg-2 : tie.Need-slice-write-leg-2
-slice-write-leg-2 c = search (needs, six-in)
+slice-write-leg-2 c = search (needs, in-set)
 
 slice-write-leg-3 : tie.Need-slice-write-leg-3
-slice-write-leg-3 c = search (needs, six-in)
+slice-write-leg-3 c = search (needs, in-set)
 
 slice-write-leg-4 : tie.Need-slice-write-leg-4
-slice-write-leg-4 c = search (needs, six-in)
+slice-write-leg-4 c = search (needs, in-set)
 
 slice-write-leg-5 : tie.Need-slice-write-leg-5
-slice-write-leg-5 c = search (needs, six-in)
+slice-write-leg-5 c = search (needs, in-set)
 
 slice-write-leg-6 : tie.Need-slice-write-leg-6
 slice-write-leg-6 c = search needs
