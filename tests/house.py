@@ -10,19 +10,8 @@ from reading import HERE, crates, every_function, indent, text_of, there
 
 WIDEST, MOST = 140, 7
 DECISIONS, PROVING = "docs/DECISIONS.md", "docs/PROVING.md"
-# A name that the definitions of these crates share, and why they may. Any other crate's is refused all the same.
-ASKED = "what is asked, as each kind of input says it: the words of the C face, a line of a list, an argument; no file cites two of them"
-TEXT = "of `lines`, which reads a program's input and knows no search; no file cites both"
-TWICE = {
-    "modeOf": ("asking kiosk_words", ASKED),
-    "walksOf": ("asking kiosk_words", ASKED),
-    "momentOf": ("arguments asking model", ASKED),
-    "placeOf": ("arguments asking kiosk_words", ASKED),
-    "begun": ("lines model", TEXT),
-    "between": ("asking lines", TEXT),
-    "opened": ("lines model", TEXT),
-    "stored": ("allocator lines", TEXT),
-}
+# A name that the definitions of some crates share: which (`one two`), and why they may. Any other crate's is refused all the same.
+TWICE = {}
 # A law or a definition that nothing reaches, and why it stays.
 ALONE = {}
 NAME = r"[^\s(){}⌜⌝«»,;:\[\]λ.]+"
@@ -128,8 +117,8 @@ for path in files("crates/*/src/**/*.rt"):
             complain(f"{path}, line {number}", f"{len(line)} characters, and {WIDEST} are the most")
 
 # ==== no function of a library with more than seven parameters, unless it is said why
-named = set(re.findall(r"`([^`]+)`", text_of(DECISIONS)))
-long = set()
+said = re.search(r"^## More than seven parameters\n(.*?)(?=^## |\Z)", text_of(DECISIONS), re.M | re.S)
+named, long = set(re.findall(r"`(\w+(?:::\w+)+)`", said.group(1))) if said else set(), set()
 for crate in crates():
     for path in files(f"crates/{crate}/src/*.rt") if there(f"crates/{crate}/src/lib.rt") else []:
         for f in every_function(path):
@@ -138,9 +127,8 @@ for crate in crates():
                 long.add(f.where)
                 if f.where not in named:
                     complain(path, f"{f.where} takes {many} parameters, {MOST} are the most, and {DECISIONS} does not say why")
-for name in sorted(n for n in named if re.fullmatch(r"\w+(::\w+)+", n) and n.split("::")[0] in crates() and n not in long):
-    if not any(f.where == name for path in files(f"crates/{name.split('::')[0]}/src/*.rt") for f in every_function(path)):
-        complain(DECISIONS, f"there is no function {name}")
+for name in sorted(named - long):
+    complain(DECISIONS, f"{name} takes no more than {MOST} parameters, or is no function of a library: take it off the list")
 
 # ==== each file says its subject first
 tracked = files("crates/*/src/**/*.rt") + files("crates/*/specs/**/*.antt") + files("crates/*/proofs/**/*.antt")

@@ -303,6 +303,7 @@ MUTATIONS = [
     ("a contract that cites a proof", lambda: sub("crates/marks/src/lib.rt", "\nghost use ", "\nghost use Rattle.marks.proofs.Laws.{none-left};\nghost use "), False, RULES, "a contract cites a proof: Rattle.marks.proofs.Laws"),
     ("a wide line of code", added("crates/marks/src/lib.rt", "// " + "wide " * 30 + "\n"), False, RULES, "characters, and 140 are the most"),
     ("a function of eight parameters", added("crates/marks/src/lib.rt", "fn more(a: u8, b: u8, c: u8, d: u8, e: u8, f: u8, g: u8, h: u8) {}\n"), False, RULES, "marks::more takes 8 parameters"),
+    ("an exception for a function of few parameters", lambda: sub("docs/DECISIONS.md", "`kiosk_words::query_of`", "`kiosk_words::query_of`, `kiosk_words::tell`"), False, RULES, "kiosk_words::tell takes no more than 7 parameters"),
     ("a file that does not say its subject", first_line_gone, False, RULES, "crates/journey/specs/Parts.antt: its first line does not say"),
     ("a script that does not say its subject", lambda: write("tests/more.py", "import os\n"), False, RULES, "tests/more.py: its first line does not say"),
     ("a name that two definitions have", added("crates/journey/specs/Put.antt", "unfoldable pub legSize : ℕ → ℕ\nlegSize n = n\n"), False, RULES, "both define legSize"),
