@@ -61,10 +61,10 @@ def cited(cell):
 
 
 def moved(path, name):
-    """The one file to which a name moved: of its own crate, or of the definitions of any."""
+    """The one file to which a name moved: of its own crate; or of the definitions of another, where it is there what was copied, since names may come again."""
     for part in (f"{path.split('/')[0]}/specs", f"{path.split('/')[0]}/proofs", "*/specs"):
         files = [os.path.relpath(p, os.path.join(HERE, "crates")) for p in glob.glob(f"{HERE}/crates/{part}/**/*.antt", recursive=True)]
-        files = [p for p in files if source(p, name)]
+        files = [p for p in files if source(p, name) and (part != "*/specs" or f"\n{source(p, name)[2]}\n```" in text_of(COPIES))]
         if len(files) == 1:
             return files[0]
     return None
