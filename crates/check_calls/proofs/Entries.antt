@@ -4,27 +4,23 @@ use mathlib.Core.Path.{_≡_}
 use mathlib.Core.Bool.{true}
 use mathlib.Core.List.{List}
 use native.Mathlib.Omega.{arith}
-use Rattle.repository.specs.Sections.{size, sec, stops, routes, rows, CALL-STARTS, CALLS, ROUTE-STOP-STARTS}
-use Rattle.repository.specs.Sections.{ROUTE-STOPS, ROUTE-TRIP-STARTS, CALL-WORDS, callRoute}
+use Rattle.repository.specs.Sections.{size, sec, stops, routes, CALL-STARTS, CALLS, ROUTE-STOP-STARTS}
+use Rattle.repository.specs.Sections.{ROUTE-TRIP-STARTS, CALL-WORDS, callRoute}
 use Rattle.repository.specs.Laid.{Laid}
 use Rattle.repository.specs.NetOf.{count}
 use Rattle.repository.specs.Listed.{call, callsHold}
-use Rattle.check_calls.specs.Entry.{Entry}
-use Rattle.check_calls.proofs.Rooms.{end-in}
+use Rattle.repository.specs.Entries.{Entry}
+use Rattle.repository.proofs.Rooms.{starts-top}
 use Rattle.check_calls.proofs.Facts.{under-shown}
 use Rattle.check_calls.proofs.CallRows.{call-shown}
 
 module _ {w : List ℕ} (l : Laid w) where
   pub route-entry : (r : ℕ) → r < routes w → Entry w ROUTE-STOP-STARTS r
-  route-entry r h = record { section = omega arith; word = omega arith; rise = l .route-stop-starts .rise r h }
-
-  pub stop-room : {r p a : ℕ} → r < routes w → p < count w ROUTE-STOP-STARTS r → a ≡ sec w ROUTE-STOP-STARTS r → a + p < size w ROUTE-STOPS
-  unfolding count
-  stop-room {r} hr hp e = omega (arith, end-in (l .route-stop-starts) (r + 1) (omega arith))
+  route-entry r h = record { section = omega arith; next = omega arith; rise = l .route-stop-starts .rise r h }
 
   -- row j of stop s stands inside the calls
   pub call-word : (s j : ℕ) {e : ℕ} → s < stops w → e ≡ sec w CALL-STARTS (s + 1) → j < e → j * CALL-WORDS < size w CALLS
-  call-word s j hs ee to = omega (arith, end-in (l .call-starts) (s + 1) (omega arith))
+  call-word s j hs ee to = omega (arith, starts-top (l .call-starts) (s + 1) (omega arith))
 
   -- it names a route
   pub call-entry : (s j : ℕ) {r a e : ℕ} → callsHold w ≡ true → s < stops w → a ≡ sec w CALL-STARTS s → e ≡ sec w CALL-STARTS (s + 1)
@@ -33,11 +29,4 @@ module _ {w : List ℕ} (l : Laid w) where
   call-entry s j {r} t hs ea ee from to er =
       let row = under-shown w CALL-STARTS (stops w) (call w) t s j hs (record { from = omega arith; to = omega arith }) in
       let below : r < routes w = rw er (call-shown w s j row .route) in
-      record { section = omega arith; word = omega arith; rise = l .route-trip-starts .rise r below }
-
--- what was read
-pub stop-at-is : (w : List ℕ) (r p : ℕ) {a x : ℕ} → a ≡ sec w ROUTE-STOP-STARTS r → x ≡ sec w ROUTE-STOPS (a + p) → x ≡ sec w ROUTE-STOPS (sec w ROUTE-STOP-STARTS r + p)
-stop-at-is w r p e f = rw e at f
-
-pub rows-is : (w : List ℕ) (k wide : ℕ) {z : ℕ} → z ≡ size w k → z / wide ≡ rows w k wide
-rows-is w k wide e = rw e
+      record { section = omega arith; next = omega arith; rise = l .route-trip-starts .rise r below }

@@ -13,7 +13,8 @@ use Rattle.base.proofs.All.{all-at}
 use Rattle.repository.specs.Sections.{size, sec}
 use Rattle.repository.specs.Listed.{among, fresh, distinct, indexed, inRange, under}
 use Rattle.repository.specs.Accepted.{Under}
-use Rattle.check_calls.proofs.Ranges.{all-so, some-shown, some-so}
+use Rattle.repository.proofs.All.{all-so}
+use Rattle.check_calls.proofs.Ranges.{some-shown, some-so}
 
 -- ---- from 0 on
 pub each-shown : (f : ℕ → Bool) (n : ℕ) → all f 0 n ≡ true → (i : ℕ) → i < n → f i ≡ true

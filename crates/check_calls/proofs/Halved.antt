@@ -14,12 +14,12 @@ use Rattle.repository.specs.Sections.{ROUTE-STOPS, CALL-WORDS, callRoute}
 use Rattle.repository.specs.NetOf.{count}
 use Rattle.repository.specs.Laid.{Laid}
 use Rattle.repository.specs.Listed.{some, routeStops, later, ascending, callsRise, calls, called}
-use Rattle.check_calls.specs.Entry.{Entry}
+use Rattle.repository.specs.Entries.{Entry}
 use Rattle.check_calls.specs.Reached.{reached}
 use Rattle.check_calls.proofs.Ranges.{both-ways, some-shown, some-so}
-use Rattle.check_calls.proofs.Rooms.{end-in}
+use Rattle.repository.proofs.Rooms.{starts-top}
 use Rattle.check_calls.proofs.Facts.{index-shown}
-use Rattle.check_calls.proofs.Entries.{stop-room}
+use Rattle.repository.proofs.Leaves.{stop-word-in}
 
 -- ---- halves
 module _ (w : List ℕ) (a r i : ℕ) {q : ℕ} (e : q ≡ callRoute w (a + i)) where
@@ -65,13 +65,13 @@ module _ {w : List ℕ} {r p s : ℕ} (l : Laid w) (t : routeStops w ≡ true) (
     (es : s ≡ sec w ROUTE-STOPS (sec w ROUTE-STOP-STARTS r + p)) where
   stop-in : s < stops w
   unfolding routeStops
-  stop-in = rw es (index-shown w ROUTE-STOPS (stops w) t (sec w ROUTE-STOP-STARTS r + p) (stop-room l hr hp refl))
+  stop-in = rw es (index-shown w ROUTE-STOPS (stops w) t (sec w ROUTE-STOP-STARTS r + p) (stop-word-in l hr hp refl))
 
   pub stop-word : s < size w CALL-STARTS
   stop-word = omega (arith, stop-in)
 
   pub stop-entry : Entry w CALL-STARTS s
-  stop-entry = record { section = omega arith; word = omega (arith, stop-in); rise = l .call-starts .rise s stop-in }
+  stop-entry = record { section = omega arith; next = omega (arith, stop-in); rise = l .call-starts .rise s stop-in }
 
   module _ {a n : ℕ} (ea : a ≡ sec w CALL-STARTS s) (en : n ≡ count w CALL-STARTS s) where
     end : a + n ≡ sec w CALL-STARTS (s + 1)
@@ -79,7 +79,7 @@ module _ {w : List ℕ} {r p s : ℕ} (l : Laid w) (t : routeStops w ≡ true) (
     end = omega (arith, l .call-starts .rise s stop-in)
 
     pub calls-room : a + n ≤ rows w CALLS CALL-WORDS
-    calls-room = omega (arith, end, end-in (l .call-starts) (s + 1) (omega (arith, stop-in)))
+    calls-room = omega (arith, end, starts-top (l .call-starts) (s + 1) (omega (arith, stop-in)))
 
     pub call-room : (i : ℕ) → i < n → a + i < rows w CALLS CALL-WORDS
     call-room i h = omega (arith, calls-room)

@@ -8,16 +8,7 @@ use borrow.Author.Tests.{lt-ltb, le-ltb, le-leb, lt-leb, eq-eqb, ne-eqb}
 use Rattle.repository.specs.Sections.{sec, routes, SERVED, ROUTE-STOP-STARTS, ROUTE-STOPS, callRoute, callFirst}
 use Rattle.repository.specs.Sections.{callLast}
 use Rattle.repository.specs.NetOf.{count}
-use Rattle.repository.specs.Listed.{indexed, call, calls, later, passes, servedMark}
-
-module _ (w : List ℕ) (k n i : ℕ) {r : ℕ} (e : r ≡ sec w k i) where
-  pub index-right : r < n → indexed w k n i ≡ true
-  unfolding indexed
-  index-right h = rw (← e) (lt-ltb r n h)
-
-  pub index-wrong : n ≤ r → indexed w k n i ≡ false
-  unfolding indexed
-  index-wrong h = rw (← e) (le-ltb r n h)
+use Rattle.repository.specs.Listed.{call, calls, later, passes, servedMark}
 
 -- ---- calls
 module _ (w : List ℕ) (s j : ℕ) {r m : ℕ} (er : r ≡ callRoute w j) (em : m ≡ routes w) where

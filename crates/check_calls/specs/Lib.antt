@@ -1,3 +1,2 @@
 -- What the contracts of `check_calls` cite beside the definitions of `repository`.
-pub mod Entry
 pub mod Reached

@@ -3,28 +3,18 @@ ghost use mathlib.Core.Path.{_≡_};
 ghost use mathlib.Core.Bool.{true};
 ghost use Prim.Native.Nat.{_+_, _-_, _≤_, _<_};
 ghost use Rattle.base.specs.Halving.{Rising, Bracket};
-ghost use Rattle.repository.specs.Sections.{sec, stops, routes, rows, CALLS, ROUTE-STOP-STARTS, ROUTE-STOPS, CALL-WORDS};
+ghost use Rattle.repository.specs.Sections.{stops, routes, rows, CALLS, ROUTE-STOP-STARTS, CALL-WORDS};
 ghost use Rattle.repository.specs.NetOf.{count};
 ghost use Rattle.repository.specs.Laid.{Laid};
 ghost use Rattle.repository.specs.Listed.{routeStops, call, later, ascending, calls, called};
 ghost use Rattle.repository.specs.Listed.{callsHold, callsRise, callsAll, stopRoutes};
 ghost use Rattle.check_calls.specs.Reached.{reached};
-use crate::words::count_of;
-use crate::words::entries_of;
-use crate::words::item;
-use crate::words::size_of;
 use repository::sections;
-
-// The stop at position p of route r.
-fn stop_at(tables: &[u32], r: u32, p: u32) -> u32
-    requires { ⌜ Laid (now tables) ⌝ }
-    requires { ⌜ r < routes (now tables) ⌝ }
-    requires { ⌜ p < count (now tables) ROUTE-STOP-STARTS r ⌝ }
-    ensures { λ s. ⌜ s ≡ sec (now (tables .entry)) ROUTE-STOPS (sec (now (tables .entry)) ROUTE-STOP-STARTS r + p) ⌝ }
-{
-    let from = item(tables, sections::ROUTE_STOP_STARTS, r as usize) as usize;
-    item(tables, sections::ROUTE_STOPS, from + p as usize)
-}
+use repository::words::entries_of;
+use repository::words::item;
+use repository::words::row_count;
+use repository::words::size_of;
+use repository::words::stop_on;
 
 fn call_ok(tables: &[u32], s: u32, j: u32) -> bool
     requires { ⌜ Laid (now tables) ⌝ }
@@ -36,7 +26,7 @@ fn call_ok(tables: &[u32], s: u32, j: u32) -> bool
     if r >= entries_of(tables, sections::ROUTE_STOP_STARTS) {
         return false;
     }
-    let n = count_of(tables, sections::ROUTE_STOP_STARTS, r);
+    let n = row_count(tables, sections::ROUTE_STOP_STARTS, r);
     let first = item(tables, sections::CALLS, at + sections::CALL_FIRST);
     if first >= n {
         return false;
@@ -45,10 +35,10 @@ fn call_ok(tables: &[u32], s: u32, j: u32) -> bool
     if last >= n {
         return false;
     }
-    if stop_at(tables, r, first) != s {
+    if stop_on(tables, r, first) != s {
         return false;
     }
-    stop_at(tables, r, last) == s
+    stop_on(tables, r, last) == s
 }
 
 // Whether each call names a route in which the stop stands at the first and the last position that it names.
@@ -169,9 +159,9 @@ fn called_ok(tables: &[u32], r: u32, p: u32) -> bool
     requires { ⌜ p < count (now tables) ROUTE-STOP-STARTS r ⌝ }
     ensures { λ ok. ⌜ ok ≡ called (now (tables .entry)) r p ⌝ }
 {
-    let s = stop_at(tables, r, p);
+    let s = stop_on(tables, r, p);
     let from = item(tables, sections::CALL_STARTS, s as usize);
-    let n = count_of(tables, sections::CALL_STARTS, s);
+    let n = row_count(tables, sections::CALL_STARTS, s);
     let i = rows_before(tables, from, n, r);
     if n <= i {
         return false;
@@ -189,7 +179,7 @@ fn calls_all_ok(tables: &[u32]) -> bool
     let n = entries_of(tables, sections::ROUTE_STOP_STARTS);
     let mut r: u32 = 0;
     while r < n {
-        let end = count_of(tables, sections::ROUTE_STOP_STARTS, r);
+        let end = row_count(tables, sections::ROUTE_STOP_STARTS, r);
         let mut p: u32 = 0;
         while p < end {
             if !called_ok(tables, r, p) {

@@ -1,4 +1,3 @@
-// The words of laid tables, and the rules of number 2 for what is called at stops: route lists and served marks.
+// The rules of number 2 for what is called at stops: route lists and served marks.
 pub mod calls;
 pub mod served;
-pub mod words;

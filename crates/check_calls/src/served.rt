@@ -5,10 +5,10 @@ ghost use Prim.Native.Nat.{_<_};
 ghost use Rattle.repository.specs.Sections.{stops};
 ghost use Rattle.repository.specs.Laid.{Laid};
 ghost use Rattle.repository.specs.Listed.{callsHold, passes, servedMark, served};
-use crate::words::count_of;
-use crate::words::item;
-use crate::words::size_of;
 use repository::sections;
+use repository::words::item;
+use repository::words::row_count;
+use repository::words::size_of;
 
 // Whether a trip passes stop s.
 fn passed(tables: &[u32], s: u32) -> bool
@@ -21,7 +21,7 @@ fn passed(tables: &[u32], s: u32) -> bool
     let end = item(tables, sections::CALL_STARTS, s as usize + 1);
     while j < end {
         let r = item(tables, sections::CALLS, j as usize * sections::CALL_WORDS);
-        if count_of(tables, sections::ROUTE_TRIP_STARTS, r) > 0 {
+        if row_count(tables, sections::ROUTE_TRIP_STARTS, r) > 0 {
             return true;
         }
         j += 1;

@@ -12,11 +12,12 @@ use Rattle.repository.specs.Sections.{size, sec, stops, trips, areas, CHILD-STA
 use Rattle.repository.specs.Sections.{AREA-STARTS, AREA-STOPS}
 use Rattle.repository.specs.Laid.{Laid}
 use Rattle.repository.specs.Listed.{inRange, under, child, childrenName, routeTrips, distinct}
-use Rattle.check_calls.specs.Entry.{Entry}
+use Rattle.repository.specs.Entries.{Entry}
 use Rattle.check_calls.proofs.Facts.{under-shown, index-shown}
 use Rattle.check_listing.specs.Fitting.{Fitting, Unmarked}
 use Rattle.check_listing.proofs.Rows.{child-shown}
-use Rattle.check_calls.proofs.Rooms.{row-of, end-in}
+use Rattle.repository.proofs.Rooms.{starts-top}
+use Rattle.check_calls.proofs.Rooms.{row-of}
 
 pub unmarked : (n : ℕ) → Unmarked (replicate n 0)
 unmarked n = record { none = λ t h. clear-none n t (omega (arith, length-replicate {A = ℕ} n 0)) }
@@ -30,7 +31,7 @@ module _ {w : List ℕ} (l : Laid w) where
 
     pub trip-entry : routeTrips w ≡ true → Entry w TIME-STARTS v
     trip-entry t =
-        record { section = omega arith; word = omega (arith, trip-in t); rise = l .time-starts .rise v (trip-in t) }
+        record { section = omega arith; next = omega (arith, trip-in t); rise = l .time-starts .rise v (trip-in t) }
 
   -- ---- marks
   pub children-fit : {n : ℕ} {ok : Bool} → ok ≡ childrenName w → not ok ≡ false → n ≡ size w CHILDREN → Fitting w CHILDREN 0 n 64
@@ -62,4 +63,4 @@ module _ {w : List ℕ} (l : Laid w) where
   }
     where
       end : to ≤ size w AREA-STOPS
-      end = omega (arith, end-in (l .area-starts) (a + 1) (omega arith))
+      end = omega (arith, starts-top (l .area-starts) (a + 1) (omega arith))

@@ -21,7 +21,8 @@ use Rattle.repository.specs.Listed.{ascending, called, calledAlong, callsHold, 
 use Rattle.repository.specs.Listed.{servedMark, served, transfer, transfers, walk, walks, areaOnce, areasOnce}
 use Rattle.repository.specs.Listed.{areasListed, framed, listed}
 use Rattle.repository.specs.Accepted.{Listed}
-use Rattle.check_calls.proofs.Ranges.{all-so, some-so}
+use Rattle.repository.proofs.All.{all-so}
+use Rattle.check_calls.proofs.Ranges.{some-so}
 use Rattle.check_listing.proofs.Parts.{six-so}
 use Rattle.check_calls.proofs.Facts.{each-so, under-so, distinct-so, index-so, or-so}
 use Rattle.check_calls.proofs.CallRows.{call-so, called-so, mark-so}

@@ -13,7 +13,16 @@ use Rattle.repository.specs.Sections.{size, sec, stops, STOP-LIST, STATIONS, CH
 use Rattle.repository.specs.Sections.{TIME-STARTS, transferFrom, transferTo, walkTo}
 use Rattle.repository.specs.NetOf.{count}
 use Rattle.marks.specs.Marks.{marked, Stand}
-use Rattle.repository.specs.Listed.{among, inPlace, station, child, ofStation, timeEach, transfer, walk}
+use Rattle.repository.specs.Listed.{among, indexed, inPlace, station, child, ofStation, timeEach, transfer, walk}
+
+module _ (w : List ℕ) (k n i : ℕ) {r : ℕ} (e : r ≡ sec w k i) where
+  pub index-right : r < n → indexed w k n i ≡ true
+  unfolding indexed
+  index-right h = rw (← e) (lt-ltb r n h)
+
+  pub index-wrong : n ≤ r → indexed w k n i ≡ false
+  unfolding indexed
+  index-wrong h = rw (← e) (le-ltb r n h)
 
 module _ (w : List ℕ) (s : ℕ) {r : ℕ} (e : r ≡ sec w STOP-LIST s) where
   pub place-right : r ≡ s → inPlace w s ≡ true

@@ -6,11 +6,11 @@ ghost use Rattle.repository.specs.Sections.{stops, areas, AREA-STOPS};
 ghost use Rattle.repository.specs.Laid.{Laid};
 ghost use Rattle.repository.specs.Listed.{inRange, areaOnce, areasOnce, areasListed};
 use crate::once::marked_once;
-use check_calls::words::entries_of;
-use check_calls::words::in_range;
-use check_calls::words::item;
-use check_calls::words::size_of;
+use crate::range::in_range;
 use repository::sections;
+use repository::words::entries_of;
+use repository::words::item;
+use repository::words::size_of;
 
 // Whether area a names no stop twice.
 fn area_once_ok(tables: &[u32], a: u32) -> bool

@@ -7,9 +7,9 @@ ghost use Rattle.repository.specs.Sections.{size, stops, CHILDREN};
 ghost use Rattle.repository.specs.Laid.{Laid};
 ghost use Rattle.repository.specs.Listed.{among, child, children, childrenName, childrenAll, ofStation};
 use crate::once::marked_once;
-use check_calls::words::item;
-use check_calls::words::size_of;
 use repository::sections;
+use repository::words::item;
+use repository::words::size_of;
 
 fn child_ok(tables: &[u32], p: u32, j: u32) -> bool
     requires { ⌜ Laid (now tables) ⌝ }

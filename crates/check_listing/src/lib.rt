@@ -7,6 +7,7 @@ mod areas;
 mod children;
 mod once;
 mod paths;
+mod range;
 mod routes;
 mod stops;
 

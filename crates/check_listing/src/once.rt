@@ -4,7 +4,7 @@ ghost use lib.ListN.{length};
 ghost use Rattle.repository.specs.Laid.{Laid};
 ghost use Rattle.repository.specs.Listed.{distinct};
 ghost use Rattle.check_listing.specs.Fitting.{Fitting, Unmarked, Marks, markedBy};
-use check_calls::words::item;
+use repository::words::item;
 
 // Whether no two of the words a, .., b - 1 of section k are the same. If so, these are marked, and nothing else; if not, those before the first
 // that repeats another.

@@ -4,10 +4,10 @@ ghost use Prim.Native.Nat.{_<_};
 ghost use Rattle.repository.specs.Sections.{rows, TRANSFERS, TRANSFER-WORDS};
 ghost use Rattle.repository.specs.Laid.{Laid};
 ghost use Rattle.repository.specs.Listed.{transfer, transfers, walks};
-use check_calls::words::item;
-use check_calls::words::rows_of;
-use check_calls::words::size_of;
 use repository::sections;
+use repository::words::item;
+use repository::words::rows_of;
+use repository::words::size_of;
 
 fn transfer_ok(tables: &[u32], s: u32, j: u32) -> bool
     requires { ⌜ Laid (now tables) ⌝ }

@@ -6,12 +6,12 @@ ghost use Rattle.repository.specs.Sections.{size, routes, ROUTE-TRIPS};
 ghost use Rattle.repository.specs.Laid.{Laid};
 ghost use Rattle.repository.specs.Listed.{routeStops, routeTrips, timeEach, tripTimes};
 use crate::once::marked_once;
-use check_calls::words::count_of;
-use check_calls::words::entries_of;
-use check_calls::words::in_range;
-use check_calls::words::item;
-use check_calls::words::size_of;
+use crate::range::in_range;
 use repository::sections;
+use repository::words::entries_of;
+use repository::words::item;
+use repository::words::row_count;
+use repository::words::size_of;
 
 // Whether the stops of routes are in range.
 pub fn route_stops_ok(tables: &[u32]) -> bool
@@ -44,7 +44,7 @@ fn time_each_ok(tables: &[u32], r: u32, i: u32) -> bool
     ensures { λ ok. ⌜ ok ≡ timeEach (now (tables .entry)) r i ⌝ }
 {
     let v = item(tables, sections::ROUTE_TRIPS, i as usize);
-    count_of(tables, sections::TIME_STARTS, v) == count_of(tables, sections::ROUTE_STOP_STARTS, r)
+    row_count(tables, sections::TIME_STARTS, v) == row_count(tables, sections::ROUTE_STOP_STARTS, r)
 }
 
 // Whether each trip has one stop time per position of its route.

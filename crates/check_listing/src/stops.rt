@@ -4,9 +4,9 @@ ghost use Prim.Native.Nat.{_<_};
 ghost use Rattle.repository.specs.Sections.{stops};
 ghost use Rattle.repository.specs.Laid.{Laid};
 ghost use Rattle.repository.specs.Listed.{station, stations, stopList};
-use check_calls::words::item;
-use check_calls::words::size_of;
 use repository::sections;
+use repository::words::item;
+use repository::words::size_of;
 
 // Whether the stop list holds s at place s.
 pub fn stop_list_ok(tables: &[u32]) -> bool

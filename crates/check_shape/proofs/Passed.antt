@@ -16,7 +16,7 @@ use Rattle.repository.specs.Sections.{CALL-WORDS, TRANSFER-WORDS, WALK-WORDS, T
 use Rattle.repository.specs.NetOf.{count}
 use Rattle.repository.specs.Laid.{headed, sized, limited, starting, started, positioned, laid, Starts, Laid}
 use Rattle.check_shape.specs.Shape.{Headed, routeFits}
-use Rattle.check_shape.proofs.Loops.{all-so}
+use Rattle.repository.proofs.All.{all-so}
 
 module _ (w : List ℕ) (k n m : ℕ) where
   starting-so : Starts w k n m → starting w k n m ≡ true

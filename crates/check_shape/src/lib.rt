@@ -11,6 +11,7 @@ ghost use Rattle.repository.specs.Laid.{headed, sized, limited, starting, start
 ghost use Rattle.check_shape.specs.Shape.{Headed, Roomy, noFall, routeFits, stopSized};
 use repository::limits;
 use repository::sections;
+use repository::words;
 
 // How many words section k has.
 pub fn size_of(tables: &[u32], k: usize) -> usize
@@ -19,8 +20,8 @@ pub fn size_of(tables: &[u32], k: usize) -> usize
     ensures { λ r. ⌜ r ≡ size (now (tables .entry)) k ⌝ }
     ensures { λ r. ⌜ r ≤ length (now (tables .entry)) ⌝ }
 {
-    let from = repository::head(tables, k) as usize;
-    let to = repository::head(tables, k + 1) as usize;
+    let from = words::head(tables, k) as usize;
+    let to = words::head(tables, k + 1) as usize;
     to - from
 }
 
@@ -61,8 +62,8 @@ fn header_ok(tables: &[u32]) -> bool
     if tables.len() < sections::HEADER {
         return false;
     }
-    let first = repository::head(tables, sections::STOP_LIST) as usize;
-    let last = repository::head(tables, sections::SECTIONS) as usize;
+    let first = words::head(tables, sections::STOP_LIST) as usize;
+    let last = words::head(tables, sections::SECTIONS) as usize;
     (first == sections::HEADER)
         & (last == tables.len())
         & never_falls(tables, 0, sections::SECTIONS)
@@ -124,10 +125,10 @@ fn starts_ok(tables: &[u32], k: usize, n: usize, wide: usize) -> bool
     requires { ⌜ 0 < wide ⌝ }
     ensures { λ r. ⌜ r ≡ starting (now (tables .entry)) k n (size (now (tables .entry)) (k + 1) / wide) ⌝ }
 {
-    let first = repository::word(tables, k, 0);
-    let last = repository::word(tables, k, n) as usize;
+    let first = words::word(tables, k, 0);
+    let last = words::word(tables, k, n) as usize;
     let rows = size_of(tables, k + 1) / wide;
-    let o = repository::head(tables, k) as usize;
+    let o = words::head(tables, k) as usize;
     (first == 0) & (last == rows) & never_falls(tables, o, n)
 }
 
@@ -163,8 +164,8 @@ pub fn count_of(tables: &[u32], k: usize, i: usize) -> usize
     requires { ⌜ i + 1 < size (now tables) k ⌝ }
     ensures { λ r. ⌜ r ≡ count (now (tables .entry)) k i ⌝ }
 {
-    let from = repository::word(tables, k, i) as usize;
-    let to = repository::word(tables, k, i + 1) as usize;
+    let from = words::word(tables, k, i) as usize;
+    let to = words::word(tables, k, i + 1) as usize;
     if to < from {
         return 0;
     }

@@ -19,7 +19,7 @@ use Rattle.repository.specs.Sections.{transferMetres}
 use Rattle.repository.specs.Checked.{measured}
 use Rattle.repository.specs.Accepted.{Measured}
 use Rattle.check_shape.proofs.Joined.{joined, joined-at}
-use Rattle.check_shape.proofs.Loops.{all-so}
+use Rattle.repository.proofs.All.{all-so}
 use Rattle.check_tables.specs.Distances.{transferFit, walkFit}
 
 -- one of two tests

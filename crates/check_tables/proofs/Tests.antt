@@ -1,5 +1,5 @@
 -- What the answers of the tests for number 5 come to, by the words that were read.
-use Prim.Native.Nat.{ℕ, _/_}
+use Prim.Native.Nat.{ℕ}
 use mathlib.Core.Path.{_≡_}
 use mathlib.Core.Bool.{Bool, _&&_, _||_}
 use mathlib.Core.List.{List}
@@ -8,8 +8,8 @@ use Rattle.base.specs.All.{all}
 use Rattle.shared.specs.Walk.{stretch}
 use Rattle.model.specs.Moments.{MAX}
 use Rattle.model.specs.Limits.{LONGEST-SPAN}
-use Rattle.repository.specs.Sections.{size, TRANSFERS, WALKS, TRANSFER-WORDS, WALK-WORDS}
-use Rattle.repository.specs.Sections.{transferStated, transferBits, walkBits, metres}
+use Rattle.repository.specs.Sections.{rows, TRANSFERS, WALKS, TRANSFER-WORDS, WALK-WORDS, transferStated, transferBits}
+use Rattle.repository.specs.Sections.{walkBits, metres}
 use Rattle.repository.specs.Checked.{measured}
 use Rattle.check_tables.specs.Distances.{transferFit, walkFit}
 
@@ -23,7 +23,7 @@ module _ (w : List ℕ) (j : ℕ) {x : ℕ} {b : Bool} where
   unfolding transferFit
   transfer-fit-is d e f = rw (f, d, e)
 
-pub measured-is : (w : List ℕ) {y z : ℕ} {t u : Bool} → y ≡ size w TRANSFERS → z ≡ size w WALKS → t ≡ all (transferFit w) 0 (y / TRANSFER-WORDS)
-    → u ≡ all (walkFit w) 0 (z / WALK-WORDS) → t && u ≡ measured w
+pub measured-is : (w : List ℕ) {y z : ℕ} {t u : Bool} → y ≡ rows w TRANSFERS TRANSFER-WORDS → z ≡ rows w WALKS WALK-WORDS
+    → t ≡ all (transferFit w) 0 y → u ≡ all (walkFit w) 0 z → t && u ≡ measured w
 unfolding measured transferFit walkFit
 measured-is w ey ez et eu = rw (et, eu, ey, ez)

@@ -8,18 +8,19 @@ ghost use Rattle.repository.specs.Checked.{measured};
 ghost use Rattle.check_tables.specs.Distances.{transferFit, walkFit};
 use repository::limits;
 use repository::sections;
+use repository::words;
 
 fn transfer_ok(tables: &[u32], j: usize) -> bool
     requires { ⌜ Laid (now tables) ⌝ }
     requires { ⌜ j < rows (now tables) TRANSFERS TRANSFER-WORDS ⌝ }
     ensures { λ ok. ⌜ ok ≡ transferFit (now (tables .entry)) j ⌝ }
 {
-    let span = repository::word(
+    let span = words::word(
         tables,
         sections::TRANSFERS,
         j * sections::TRANSFER_WORDS + sections::TRANSFER_STATED,
     );
-    let bits = repository::word(
+    let bits = words::word(
         tables,
         sections::TRANSFERS,
         j * sections::TRANSFER_WORDS + sections::TRANSFER_METRES,
@@ -32,7 +33,7 @@ fn walk_ok(tables: &[u32], j: usize) -> bool
     requires { ⌜ j < rows (now tables) WALKS WALK-WORDS ⌝ }
     ensures { λ ok. ⌜ ok ≡ walkFit (now (tables .entry)) j ⌝ }
 {
-    let bits = repository::word(
+    let bits = words::word(
         tables,
         sections::WALKS,
         j * sections::WALK_WORDS + sections::WALK_METRES,
@@ -79,7 +80,7 @@ pub fn distances_ok(tables: &[u32]) -> bool
     requires { ⌜ Laid (now tables) ⌝ }
     ensures { λ ok. ⌜ ok ≡ measured (now (tables .entry)) ⌝ }
 {
-    let transfers = check_shape::size_of(tables, sections::TRANSFERS) / sections::TRANSFER_WORDS;
-    let walks = check_shape::size_of(tables, sections::WALKS) / sections::WALK_WORDS;
+    let transfers = words::rows_of(tables, sections::TRANSFERS, sections::TRANSFER_WORDS);
+    let walks = words::rows_of(tables, sections::WALKS, sections::WALK_WORDS);
     transfers_ok(tables, transfers) & walks_ok(tables, walks)
 }

@@ -8,7 +8,7 @@ use Rattle.base.specs.All.{all, So}
 use Rattle.base.proofs.All.{so-start, so-on, so-fails, so-passes, all-at}
 use Rattle.model.specs.Tables.{Net}
 use Rattle.repository.specs.Checked.{walk}
-use Rattle.check_shape.proofs.Loops.{all-so}
+use Rattle.repository.proofs.All.{all-so}
 
 module _ (n : Net) (from : ℕ) (f : ℕ → ℕ → ℕ → Bool) where
   -- the test of a position, and of a route

@@ -10,6 +10,7 @@ ghost use Rattle.repository.specs.Checked.{timely, timed, ordered};
 ghost use Rattle.check_times.specs.Stands.{Stands};
 use repository::limits;
 use repository::sections;
+use repository::words;
 
 // When a trip arrives at a position, and when it departs from there.
 struct StopTime {
@@ -49,9 +50,9 @@ fn row_at(tables: &[u32], r: usize, p: usize, i: usize) -> usize
         ⌜ start (now (tables .entry)) TIMES + (j + netOf (now (tables .entry)) .positions r) * TIME-WORDS
         ≤ length (now (tables .entry)) + p * TIME-WORDS ⌝ }
 {
-    let place = repository::word(tables, sections::ROUTE_TRIP_STARTS, r) as usize + i;
-    let trip = repository::word(tables, sections::ROUTE_TRIPS, place) as usize;
-    repository::word(tables, sections::TIME_STARTS, trip) as usize + p
+    let place = words::word(tables, sections::ROUTE_TRIP_STARTS, r) as usize + i;
+    let trip = words::word(tables, sections::ROUTE_TRIPS, place) as usize;
+    words::word(tables, sections::TIME_STARTS, trip) as usize + p
 }
 
 fn stop_time(tables: &[u32], r: usize, p: usize, i: usize) -> StopTime
@@ -60,8 +61,8 @@ fn stop_time(tables: &[u32], r: usize, p: usize, i: usize) -> StopTime
     ensures { λ t. ⌜ t .departure ≡ netOf (now (tables .entry)) .departure (netOf (now (tables .entry)) .tripAt r i) p ⌝ }
 {
     let j = row_at(tables, r, p, i);
-    let arrival = repository::word(tables, sections::TIMES, j * sections::TIME_WORDS);
-    let departure = repository::word(
+    let arrival = words::word(tables, sections::TIMES, j * sections::TIME_WORDS);
+    let departure = words::word(
         tables,
         sections::TIMES,
         j * sections::TIME_WORDS + sections::DEPARTURE,
@@ -80,15 +81,15 @@ fn time_ok(tables: &[u32], r: usize, p: usize, i: usize, end: usize) -> bool
     ensures { λ ok. ⌜ ok ≡ timely (netOf (now (tables .entry))) r p i ⌝ }
 {
     let j = row_at(tables, r, p, i);
-    let arrival = repository::word(tables, sections::TIMES, j * sections::TIME_WORDS);
-    let departure = repository::word(
+    let arrival = words::word(tables, sections::TIMES, j * sections::TIME_WORDS);
+    let departure = words::word(
         tables,
         sections::TIMES,
         j * sections::TIME_WORDS + sections::DEPARTURE,
     );
     let stays = (1 <= arrival) & (arrival <= departure) & (departure <= limits::LAST_MOMENT);
     if p + 1 < end {
-        let next = repository::word(tables, sections::TIMES, (j + 1) * sections::TIME_WORDS);
+        let next = words::word(tables, sections::TIMES, (j + 1) * sections::TIME_WORDS);
         return stays & (departure <= next);
     }
     stays

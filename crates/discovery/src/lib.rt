@@ -8,7 +8,7 @@ ghost use Rattle.model.specs.Lists.{upto};
 ghost use Rattle.model.specs.declared.Direction.the-variants.{Departure, Arrival};
 ghost use Rattle.model.specs.Choosing.{firstPosition};
 ghost use Rattle.repository.specs.Sections.{callRoute, callFirst};
-ghost use Rattle.repository.specs.Laid.{Laid};
+ghost use Rattle.repository.specs.Readable.{Readable};
 ghost use Rattle.repository.specs.Accepted.{Accepted};
 ghost use Rattle.repository.specs.NetOf.{transferRow, walkRow, netOf};
 ghost use Rattle.repository.specs.Rows.{calls, transfers, walks, rowCount, OfStop, Stands};
@@ -24,7 +24,7 @@ pub enum Trip {
 
 // When a trip arrives at its position p.
 pub fn get_arrival_time(tables: &[u32], v: u32, p: u32) -> Time
-    requires { ⌜ Laid (now tables) ⌝ }
+    requires { ⌜ Readable (now tables) ⌝ }
     requires { ⌜ Stands (now tables) v p ⌝ }
     ensures { λ t. ⌜ t .0 ≡ netOf (now (tables .entry)) .arrival v p ⌝ }
 {
@@ -34,7 +34,7 @@ pub fn get_arrival_time(tables: &[u32], v: u32, p: u32) -> Time
 
 // When it departs from there.
 pub fn get_departure_time(tables: &[u32], v: u32, p: u32) -> Time
-    requires { ⌜ Laid (now tables) ⌝ }
+    requires { ⌜ Readable (now tables) ⌝ }
     requires { ⌜ Stands (now tables) v p ⌝ }
     ensures { λ t. ⌜ t .0 ≡ netOf (now (tables .entry)) .departure v p ⌝ }
 {

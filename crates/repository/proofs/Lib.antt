@@ -13,3 +13,5 @@ pub mod Exact
 pub mod Areas
 pub mod Sound
 pub mod Narrow
+pub mod All
+pub mod Asked

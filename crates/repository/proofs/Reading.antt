@@ -35,20 +35,12 @@ unfolding count
 list-room h k l m = room h (k + 1) (omega (arith, l .section)) (omega (arith, l .within))
 
 module _ {w : List ℕ} {r p a : ℕ} (h : Laid w) (i : r < netOf w .routes) where
-  pub stop-room : p < netOf w .positions r → a ≡ sec w ROUTE-STOP-STARTS r → start w ROUTE-STOPS + (a + p) < length w
-  unfolding netOf
-  stop-room m e = rw e (list-room h ROUTE-STOP-STARTS (stop-of-route h i) m)
-
   pub trip-room : p < netOf w .trips r → a ≡ sec w ROUTE-TRIP-STARTS r → start w ROUTE-TRIPS + (a + p) < length w
   unfolding netOf
   trip-room m e = rw e (list-room h ROUTE-TRIP-STARTS (trip-of-route h i) m)
 
 -- what the words are
 module _ (w : List ℕ) (r p : ℕ) {a x : ℕ} where
-  pub stop-at-is : a ≡ sec w ROUTE-STOP-STARTS r → x ≡ sec w ROUTE-STOPS (a + p) → x ≡ netOf w .stopAt r p
-  unfolding netOf
-  stop-at-is e f = rw e at f
-
   pub trip-at-is : a ≡ sec w ROUTE-TRIP-STARTS r → x ≡ sec w ROUTE-TRIPS (a + p) → x ≡ netOf w .tripAt r p
   unfolding netOf
   trip-at-is e f = rw e at f

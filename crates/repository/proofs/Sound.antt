@@ -17,6 +17,7 @@ use Rattle.repository.proofs.Lists.{transfers-are, walks-are, rest-said
 use Rattle.repository.proofs.Ranges.{of-stop, row-known, transfer-known, walk-known}
 use Rattle.repository.proofs.Stops.{stop-known, station-in}
 use Rattle.repository.proofs.Exact.{routes-contain}
+use Rattle.repository.proofs.Asked.{accepted-timed}
 
 module _ {w : List ℕ} (h : Accepted w) where
   transfers-in : (s : ℕ) (f : Foot) → s < netOf w .stops → List·Memᴰ f (netOf w .transfers s) → f .to < netOf w .stops
@@ -56,8 +57,8 @@ accepted-sound h = record {
   station-in = λ s p i e. station-in h i e;
   children-in = children-in h;
   areas-in = areas-in h;
-  from-one = h .timed .from-one;
-  to-million = h .timed .to-million;
-  stays = h .timed .stays;
-  moves = h .timed .moves;
+  from-one = (accepted-timed h) .from-one;
+  to-million = (accepted-timed h) .to-million;
+  stays = (accepted-timed h) .stays;
+  moves = (accepted-timed h) .moves;
 }

@@ -8,3 +8,4 @@ pub mod Accepted
 pub mod Rows
 pub mod Entries
 pub mod Station
+pub mod Readable

@@ -6,6 +6,7 @@ ghost use Rattle.repository.specs.Laid.{Laid};
 ghost use Rattle.repository.specs.NetOf.{netOf};
 ghost use Rattle.repository.specs.Rows.{calls, firstRow, pastRow, rowCount};
 use crate::sections;
+use crate::words;
 
 // The first row of a stop.
 pub fn calls_from(tables: &[u32], s: u32) -> u32
@@ -13,7 +14,7 @@ pub fn calls_from(tables: &[u32], s: u32) -> u32
     requires { ⌜ s < netOf (now tables) .stops ⌝ }
     ensures { λ a. ⌜ a ≡ firstRow calls (now (tables .entry)) s ⌝ }
 {
-    super::row_from(tables, sections::CALL_STARTS, s)
+    words::row_from(tables, sections::CALL_STARTS, s)
 }
 
 // The row past its last.
@@ -23,7 +24,7 @@ pub fn calls_to(tables: &[u32], s: u32) -> u32
     ensures { λ b. ⌜ b ≡ pastRow calls (now (tables .entry)) s ⌝ }
     ensures { λ b. ⌜ b ≤ rowCount calls (now (tables .entry)) ⌝ }
 {
-    super::row_to(tables, sections::CALL_STARTS, s)
+    words::row_to(tables, sections::CALL_STARTS, s)
 }
 
 // The route that row j names.
@@ -33,7 +34,7 @@ pub fn call_route(tables: &[u32], j: u32) -> u32
     ensures { λ r. ⌜ r ≡ callRoute (now (tables .entry)) j ⌝ }
 {
     let at = j as usize * sections::CALL_WORDS;
-    super::word(tables, sections::CALLS, at)
+    words::word(tables, sections::CALLS, at)
 }
 
 // The first position of the row's stop in that route.
@@ -43,5 +44,5 @@ pub fn call_first(tables: &[u32], j: u32) -> u32
     ensures { λ p. ⌜ p ≡ callFirst (now (tables .entry)) j ⌝ }
 {
     let at = j as usize * sections::CALL_WORDS + sections::CALL_FIRST;
-    super::word(tables, sections::CALLS, at)
+    words::word(tables, sections::CALLS, at)
 }

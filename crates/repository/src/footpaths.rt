@@ -8,6 +8,7 @@ ghost use Rattle.repository.specs.Accepted.{Accepted};
 ghost use Rattle.repository.specs.NetOf.{netOf, transferRow, walkRow};
 ghost use Rattle.repository.specs.Rows.{transfers, walks, firstRow, pastRow, rowCount};
 use crate::sections;
+use crate::words;
 use shared::Distance;
 use shared::Duration;
 
@@ -17,7 +18,7 @@ pub fn transfers_from(tables: &[u32], s: u32) -> u32
     requires { ⌜ s < netOf (now tables) .stops ⌝ }
     ensures { λ a. ⌜ a ≡ firstRow transfers (now (tables .entry)) s ⌝ }
 {
-    super::row_from(tables, sections::TRANSFER_STARTS, s)
+    words::row_from(tables, sections::TRANSFER_STARTS, s)
 }
 
 // The row past its last.
@@ -27,7 +28,7 @@ pub fn transfers_to(tables: &[u32], s: u32) -> u32
     ensures { λ b. ⌜ b ≡ pastRow transfers (now (tables .entry)) s ⌝ }
     ensures { λ b. ⌜ b ≤ rowCount transfers (now (tables .entry)) ⌝ }
 {
-    super::row_to(tables, sections::TRANSFER_STARTS, s)
+    words::row_to(tables, sections::TRANSFER_STARTS, s)
 }
 
 // The stop that transfer j leads to.
@@ -37,7 +38,7 @@ pub fn transfer_to(tables: &[u32], j: u32) -> u32
     ensures { λ s. ⌜ s ≡ (transferRow (now (tables .entry)) j) .to ⌝ }
 {
     let at = j as usize * sections::TRANSFER_WORDS + sections::TRANSFER_TO;
-    super::word(tables, sections::TRANSFERS, at)
+    words::word(tables, sections::TRANSFERS, at)
 }
 
 // Its stated span; MAX is an unstated one.
@@ -47,7 +48,7 @@ pub fn transfer_stated(tables: &[u32], j: u32) -> Duration
     ensures { λ d. ⌜ d .0 ≡ transferStated (now (tables .entry)) j ⌝ }
 {
     let at = j as usize * sections::TRANSFER_WORDS + sections::TRANSFER_STATED;
-    Duration(super::word(tables, sections::TRANSFERS, at))
+    Duration(words::word(tables, sections::TRANSFERS, at))
 }
 
 // Its metres.
@@ -58,7 +59,7 @@ pub fn transfer_metres(tables: &[u32], j: u32) -> Distance
     ensures { λ d. ⌜ Stretch (d .0) ⌝ }
 {
     let at = j as usize * sections::TRANSFER_WORDS + sections::TRANSFER_METRES;
-    let bits = super::word(tables, sections::TRANSFERS, at);
+    let bits = words::word(tables, sections::TRANSFERS, at);
     shared::distance_of(bits)
 }
 
@@ -68,7 +69,7 @@ pub fn walks_from(tables: &[u32], s: u32) -> u32
     requires { ⌜ s < netOf (now tables) .stops ⌝ }
     ensures { λ a. ⌜ a ≡ firstRow walks (now (tables .entry)) s ⌝ }
 {
-    super::row_from(tables, sections::WALK_STARTS, s)
+    words::row_from(tables, sections::WALK_STARTS, s)
 }
 
 // The row past its last.
@@ -78,7 +79,7 @@ pub fn walks_to(tables: &[u32], s: u32) -> u32
     ensures { λ b. ⌜ b ≡ pastRow walks (now (tables .entry)) s ⌝ }
     ensures { λ b. ⌜ b ≤ rowCount walks (now (tables .entry)) ⌝ }
 {
-    super::row_to(tables, sections::WALK_STARTS, s)
+    words::row_to(tables, sections::WALK_STARTS, s)
 }
 
 // The stop that walk j leads to.
@@ -88,7 +89,7 @@ pub fn walk_to(tables: &[u32], j: u32) -> u32
     ensures { λ s. ⌜ s ≡ (walkRow (now (tables .entry)) j) .to ⌝ }
 {
     let at = j as usize * sections::WALK_WORDS;
-    super::word(tables, sections::WALKS, at)
+    words::word(tables, sections::WALKS, at)
 }
 
 // Its metres.
@@ -99,6 +100,6 @@ pub fn walk_metres(tables: &[u32], j: u32) -> Distance
     ensures { λ d. ⌜ Stretch (d .0) ⌝ }
 {
     let at = j as usize * sections::WALK_WORDS + sections::WALK_METRES;
-    let bits = super::word(tables, sections::WALKS, at);
+    let bits = words::word(tables, sections::WALKS, at);
     shared::distance_of(bits)
 }

@@ -7,6 +7,7 @@ ghost use Rattle.repository.specs.Accepted.{Accepted};
 ghost use Rattle.repository.specs.NetOf.{netOf};
 ghost use Rattle.repository.specs.Station.{stationIs};
 use crate::sections;
+use crate::words;
 
 // A stop's parent station, or none.
 pub enum Station {
@@ -18,14 +19,14 @@ pub fn stop_count(tables: &[u32]) -> u32
     requires { ⌜ Laid (now tables) ⌝ }
     ensures { λ n. ⌜ n ≡ netOf (now (tables .entry)) .stops ⌝ }
 {
-    super::size(tables, sections::STOP_LIST)
+    words::size_of(tables, sections::STOP_LIST)
 }
 
 pub fn area_count(tables: &[u32]) -> u32
     requires { ⌜ Laid (now tables) ⌝ }
     ensures { λ n. ⌜ n ≡ netOf (now (tables .entry)) .areas ⌝ }
 {
-    super::size(tables, sections::AREA_STARTS) - 1
+    words::size_of(tables, sections::AREA_STARTS) - 1
 }
 
 // The parent station of a stop.
@@ -34,7 +35,7 @@ pub fn station_of(tables: &[u32], s: u32) -> Station
     requires { ⌜ s < netOf (now tables) .stops ⌝ }
     ensures { λ p. ⌜ p ≡ stationIs (netOf (now (tables .entry)) .station s) ⌝ }
 {
-    let p = super::word(tables, sections::STATIONS, s as usize);
+    let p = words::word(tables, sections::STATIONS, s as usize);
     if p == super::MAX {
         return Station::Nothing;
     }
@@ -47,7 +48,7 @@ pub fn children(tables: &[u32], s: u32) -> &[u32]
     requires { ⌜ s < netOf (now tables) .stops ⌝ }
     ensures { λ q. ⌜ now q ≡ netOf (now (tables .entry)) .children s ⌝ }
 {
-    super::listing(tables, sections::CHILD_STARTS, s)
+    words::listing(tables, sections::CHILD_STARTS, s)
 }
 
 // A stop by itself: its single entry in the stop list.
@@ -56,7 +57,7 @@ pub fn stop_entry(tables: &[u32], s: u32) -> &[u32]
     requires { ⌜ s < netOf (now tables) .stops ⌝ }
     ensures { λ q. ⌜ now q ≡ s ∷ [] ⌝ }
 {
-    super::part(tables, sections::STOP_LIST, s, s + 1)
+    words::part(tables, sections::STOP_LIST, s, s + 1)
 }
 
 // Whether a trip passes a stop.
@@ -65,7 +66,7 @@ pub fn served(tables: &[u32], s: u32) -> bool
     requires { ⌜ s < netOf (now tables) .stops ⌝ }
     ensures { λ b. ⌜ b ≡ netOf (now (tables .entry)) .served s ⌝ }
 {
-    super::word(tables, sections::SERVED, s as usize) == 1
+    words::word(tables, sections::SERVED, s as usize) == 1
 }
 
 // The stops that an area names, as a part of the area list.
@@ -74,5 +75,5 @@ pub fn stops_named(tables: &[u32], a: u32) -> &[u32]
     requires { ⌜ a < netOf (now tables) .areas ⌝ }
     ensures { λ q. ⌜ now q ≡ netOf (now (tables .entry)) .areaStops a ⌝ }
 {
-    super::listing(tables, sections::AREA_STARTS, a)
+    words::listing(tables, sections::AREA_STARTS, a)
 }

@@ -1,11 +1,11 @@
 -- `first_near`: each way begins with a bracket around the place that is looked for.
 use borrow.Author.Needs.{needs}
-use Rattle.discovery.proofs.Near.{along-laid, whole, begin-down, begin-up}
+use Rattle.discovery.proofs.Near.{along-readable, whole, begin-down, begin-up}
 use Rattle.discovery.proofs.first_near.Statement.{statement}
 use Rattle.discovery.proofs.first_near.Tie as tie
 
 trips-of-route-requires : tie.Need-trips-of-route-requires
-trips-of-route-requires c κs = search (needs, along-laid)
+trips-of-route-requires c κs = search (needs, along-readable)
 
 cast-if1 : tie.Need-cast-if1
 cast-if1 c = search needs

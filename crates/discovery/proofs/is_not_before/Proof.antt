@@ -1,15 +1,15 @@
 -- `is_not_before`: the arrival that is read decides the test.
 use borrow.Author.Needs.{needs}
-use Rattle.discovery.proofs.Near.{along-laid, along-stands}
+use Rattle.discovery.proofs.Near.{along-readable, along-stands}
 use Rattle.discovery.proofs.Tests.{not-before-is}
 use Rattle.discovery.proofs.is_not_before.Statement.{statement}
 use Rattle.discovery.proofs.is_not_before.Tie as tie
 
 trip-at-requires : tie.Need-trip-at-requires
-trip-at-requires c κs = search (needs, along-laid)
+trip-at-requires c κs = search (needs, along-readable)
 
 get-arrival-time-requires : tie.Need-get-arrival-time-requires
-get-arrival-time-requires c κs = search (needs, along-laid, along-stands)
+get-arrival-time-requires c κs = search (needs, along-readable, along-stands)
 
 cast-result : tie.Need-cast-result
 cast-result c = search needs

@@ -18,8 +18,8 @@ entries-of-requires c κs = search needs
 returns : tie.Need-returns
 returns c = search (needs, call-out)
 
-count-of-requires : tie.Need-count-of-requires
-count-of-requires c κs = (search needs, route-entry (search needs) _ (search needs))
+row-count-requires : tie.Need-row-count-requires
+row-count-requires c κs = (search needs, route-entry (search needs) _ (search needs))
 
 add-item : tie.Need-add-item
 add-item c = search needs
@@ -39,14 +39,14 @@ item-requires-3 c κs = search needs
 returns-3 : tie.Need-returns-3
 returns-3 c = search (needs, call-last-out)
 
-stop-at-requires : tie.Need-stop-at-requires
-stop-at-requires c κs = search needs
+stop-on-requires : tie.Need-stop-on-requires
+stop-on-requires c κs = search needs
 
 returns-4 : tie.Need-returns-4
 returns-4 c = search (needs, call-first-other)
 
-stop-at-requires-2 : tie.Need-stop-at-requires-2
-stop-at-requires-2 c κs = search needs
+stop-on-requires-2 : tie.Need-stop-on-requires-2
+stop-on-requires-2 c κs = search needs
 
 returns-5 : tie.Need-returns-5
 returns-5 c = search (needs, call-last-is)
@@ -59,14 +59,14 @@ call-ok-spec =
     item-requires
     entries-of-requires
     returns
-    count-of-requires
+    row-count-requires
     add-item
     item-requires-2
     returns-2
     add-item-2
     item-requires-3
     returns-3
-    stop-at-requires
+    stop-on-requires
     returns-4
-    stop-at-requires-2
+    stop-on-requires-2
     returns-5)

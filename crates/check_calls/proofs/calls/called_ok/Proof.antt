@@ -5,8 +5,8 @@ use Rattle.check_calls.proofs.Halved.{called-none, called-there}
 use Rattle.check_calls.proofs.calls.called_ok.Statement.{statement}
 use Rattle.check_calls.proofs.calls.called_ok.Tie as tie
 
-stop-at-requires : tie.Need-stop-at-requires
-stop-at-requires c κs = search needs
+stop-on-requires : tie.Need-stop-on-requires
+stop-on-requires c κs = search needs
 
 cast-item : tie.Need-cast-item
 cast-item c = search needs
@@ -14,8 +14,8 @@ cast-item c = search needs
 item-requires : tie.Need-item-requires
 item-requires c κs = (search needs, (search needs, search (needs, stop-word)))
 
-count-of-requires : tie.Need-count-of-requires
-count-of-requires c κs = (search needs, search (needs, stop-entry))
+row-count-requires : tie.Need-row-count-requires
+row-count-requires c κs = (search needs, search (needs, stop-entry))
 
 rows-before-requires : tie.Need-rows-before-requires
 rows-before-requires c κs = (search needs, (search (needs, calls-room), search (needs, calls-rising)))
@@ -33,10 +33,10 @@ pub called-ok-spec : {M : Type 1} → statement M
 called-ok-spec =
     tie.close
     (tie.spec
-    stop-at-requires
+    stop-on-requires
     cast-item
     item-requires
-    count-of-requires
+    row-count-requires
     rows-before-requires
     returns
     row-calls-requires

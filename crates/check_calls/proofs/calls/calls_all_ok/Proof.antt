@@ -29,8 +29,8 @@ entries-of-requires c κs = search needs
 loop-holds : tie.Need-loop-holds Inv-loop2 μ-loop2 Inv-loop μ-loop
 loop-holds c = search (needs, so-start)
 
-count-of-requires : tie.Need-count-of-requires Inv-loop2 μ-loop2 Inv-loop μ-loop
-count-of-requires c κs = (search needs, route-entry (search needs) _ (search needs))
+row-count-requires : tie.Need-row-count-requires Inv-loop2 μ-loop2 Inv-loop μ-loop
+row-count-requires c κs = (search needs, route-entry (search needs) _ (search needs))
 
 loop2-holds : tie.Need-loop2-holds Inv-loop2 μ-loop2 Inv-loop μ-loop
 loop2-holds c = search (needs, so-start)
@@ -74,7 +74,7 @@ calls-all-ok-spec =
     μ-loop
     entries-of-requires
     loop-holds
-    count-of-requires
+    row-count-requires
     loop2-holds
     called-ok-requires
     returns

@@ -36,8 +36,8 @@ mul-item c = search needs
 item-requires-3 : tie.Need-item-requires-3 Inv-loop μ-loop
 item-requires-3 c κs = (search needs, (search needs, search (needs, call-word)))
 
-count-of-requires : tie.Need-count-of-requires Inv-loop μ-loop
-count-of-requires c κs = (search needs, search (needs, call-entry))
+row-count-requires : tie.Need-row-count-requires Inv-loop μ-loop
+row-count-requires c κs = (search needs, search (needs, call-entry))
 
 returns : tie.Need-returns Inv-loop μ-loop
 returns c = search (needs, one-runs)
@@ -67,7 +67,7 @@ passed-spec =
     cast-item
     mul-item
     item-requires-3
-    count-of-requires
+    row-count-requires
     returns
     add-j
     loop-less

@@ -9,15 +9,15 @@ use Rattle.check_listing.proofs.routes.time_each_ok.Tie as tie
 item-requires : tie.Need-item-requires
 item-requires c κs = search needs
 
-count-of-requires : tie.Need-count-of-requires
-count-of-requires c κs = (search needs, search (needs, trip-entry))
+row-count-requires : tie.Need-row-count-requires
+row-count-requires c κs = (search needs, search (needs, trip-entry))
 
-count-of-requires-2 : tie.Need-count-of-requires-2
-count-of-requires-2 c κs = (search needs, search (needs, route-entry))
+row-count-requires-2 : tie.Need-row-count-requires-2
+row-count-requires-2 c κs = (search needs, search (needs, route-entry))
 
 returns : tie.Need-returns
 returns c = search (needs, times-each)
 
 pub time-each-ok-spec : {M : Type 1} → statement M
 time-each-ok-spec =
-    tie.close (tie.spec item-requires count-of-requires count-of-requires-2 returns)
+    tie.close (tie.spec item-requires row-count-requires row-count-requires-2 returns)

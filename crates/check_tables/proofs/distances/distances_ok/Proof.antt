@@ -4,11 +4,11 @@ use Rattle.check_tables.proofs.Tests.{measured-is}
 use Rattle.check_tables.proofs.distances.distances_ok.Statement.{statement}
 use Rattle.check_tables.proofs.distances.distances_ok.Tie as tie
 
-size-of-requires : tie.Need-size-of-requires
-size-of-requires c κs = search needs
+rows-of-requires : tie.Need-rows-of-requires
+rows-of-requires c κs = search needs
 
-size-of-requires-2 : tie.Need-size-of-requires-2
-size-of-requires-2 c κs = search needs
+rows-of-requires-2 : tie.Need-rows-of-requires-2
+rows-of-requires-2 c κs = search needs
 
 transfers-ok-requires : tie.Need-transfers-ok-requires
 transfers-ok-requires c κs = search needs
@@ -22,4 +22,4 @@ returns c = search measured-is
 pub distances-ok-spec : {M : Type 1} → statement M
 distances-ok-spec =
     tie.close
-    (tie.spec size-of-requires size-of-requires-2 transfers-ok-requires walks-ok-requires returns)
+    (tie.spec rows-of-requires rows-of-requires-2 transfers-ok-requires walks-ok-requires returns)

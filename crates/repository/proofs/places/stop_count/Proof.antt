@@ -4,12 +4,12 @@ use Rattle.repository.specs.NetOf.{netOf}
 use Rattle.repository.proofs.places.stop_count.Statement.{statement}
 use Rattle.repository.proofs.places.stop_count.Tie as tie
 
-size-requires : tie.Need-size-requires
-size-requires c κs = search needs
+size-of-requires : tie.Need-size-of-requires
+size-of-requires c κs = search needs
 
 returns : tie.Need-returns
 unfolding netOf
 returns c = search needs
 
 pub stop-count-spec : {M : Type 1} → statement M
-stop-count-spec = tie.close (tie.spec size-requires returns)
+stop-count-spec = tie.close (tie.spec size-of-requires returns)

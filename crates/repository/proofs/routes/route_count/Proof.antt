@@ -4,8 +4,8 @@ use Rattle.repository.specs.NetOf.{netOf}
 use Rattle.repository.proofs.routes.route_count.Statement.{statement}
 use Rattle.repository.proofs.routes.route_count.Tie as tie
 
-size-requires : tie.Need-size-requires
-size-requires c κs = search needs
+size-of-requires : tie.Need-size-of-requires
+size-of-requires c κs = search needs
 
 sub-result : tie.Need-sub-result
 sub-result c = search needs
@@ -15,4 +15,4 @@ unfolding netOf
 returns c = search needs
 
 pub route-count-spec : {M : Type 1} → statement M
-route-count-spec = tie.close (tie.spec size-requires sub-result returns)
+route-count-spec = tie.close (tie.spec size-of-requires sub-result returns)

@@ -1,24 +1,16 @@
--- `stop_at`: the position is in range, and the word is the stop.
+-- `stop_at`: the network's stop is the tables'.
 use borrow.Author.Needs.{needs}
-use Rattle.repository.proofs.Rooms.{stop-of-route}
-use Rattle.repository.proofs.Reading.{list-entry, stop-room, stop-at-is}
+use Rattle.repository.specs.NetOf.{netOf}
 use Rattle.repository.proofs.routes.stop_at.Statement.{statement}
 use Rattle.repository.proofs.routes.stop_at.Tie as tie
 
-row-from-requires : tie.Need-row-from-requires
-row-from-requires c κs = search (needs, list-entry, stop-of-route)
-
-cast-a : tie.Need-cast-a
-cast-a c = search needs
-
-add-word : tie.Need-add-word
-add-word c = search needs
-
-word-requires : tie.Need-word-requires
-word-requires c κs = search (needs, stop-room)
+stop-on-requires : tie.Need-stop-on-requires
+unfolding netOf
+stop-on-requires c κs = search needs
 
 returns : tie.Need-returns
-returns c = search stop-at-is
+unfolding netOf
+returns c = search needs
 
 pub stop-at-spec : {M : Type 1} → statement M
-stop-at-spec = tie.close (tie.spec row-from-requires cast-a add-word word-requires returns)
+stop-at-spec = tie.close (tie.spec stop-on-requires returns)

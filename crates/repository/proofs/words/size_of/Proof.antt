@@ -1,9 +1,9 @@
--- `size`: a section ends where the next begins.
+-- `size_of`: a section ends where the next begins.
 use borrow.Author.Needs.{needs}
 use Rattle.repository.proofs.Leaves.{head-rise}
 use Rattle.repository.specs.Sections.{size}
-use Rattle.repository.proofs.size.Statement.{statement}
-use Rattle.repository.proofs.size.Tie as tie
+use Rattle.repository.proofs.words.size_of.Statement.{statement}
+use Rattle.repository.proofs.words.size_of.Tie as tie
 
 add-head : tie.Need-add-head
 add-head c = search needs
@@ -21,5 +21,5 @@ returns : tie.Need-returns
 unfolding size
 returns c = search needs
 
-pub size-spec : {M : Type 1} → statement M
-size-spec = tie.close (tie.spec add-head head-requires head-requires-2 sub-result returns)
+pub size-of-spec : {M : Type 1} → statement M
+size-of-spec = tie.close (tie.spec add-head head-requires head-requires-2 sub-result returns)

@@ -5,10 +5,10 @@ use Rattle.base.specs.All.{So}
 use Rattle.base.proofs.All.{so-start}
 use Rattle.repository.specs.Sections.{size}
 use Rattle.repository.specs.Listed.{indexed, inRange}
 use Rattle.check_calls.proofs.Turns.{done, turn, fault}
-use Rattle.check_calls.proofs.Rows.{index-right, index-wrong}
-use Rattle.check_calls.proofs.words.in_range.Statement.{statement}
-use Rattle.check_calls.proofs.words.in_range.Tie as tie
+use Rattle.check_listing.proofs.Rows.{index-right, index-wrong}
+use Rattle.check_listing.proofs.range.in_range.Statement.{statement}
+use Rattle.check_listing.proofs.range.in_range.Tie as tie
 
 abbrev Inv-loop : tie.InvT-loop
 Inv-loop tables k limit n i₀ i = So (indexed tables k limit) 0 (size tables k) i

@@ -1,8 +1,8 @@
 -- `row_from`: the entry is in its section.
 use borrow.Author.Needs.{needs}
 use Rattle.repository.proofs.Leaves.{entry-room}
-use Rattle.repository.proofs.row_from.Statement.{statement}
-use Rattle.repository.proofs.row_from.Tie as tie
+use Rattle.repository.proofs.words.row_from.Statement.{statement}
+use Rattle.repository.proofs.words.row_from.Tie as tie
 
 word-requires : tie.Need-word-requires
 word-requires c κs = search (needs, entry-room)

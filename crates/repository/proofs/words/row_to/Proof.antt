@@ -1,8 +1,8 @@
 -- `row_to`: the next entry is in its section.
 use borrow.Author.Needs.{needs}
 use Rattle.repository.proofs.Leaves.{next-room}
-use Rattle.repository.proofs.row_to.Statement.{statement}
-use Rattle.repository.proofs.row_to.Tie as tie
+use Rattle.repository.proofs.words.row_to.Statement.{statement}
+use Rattle.repository.proofs.words.row_to.Tie as tie
 
 add-word : tie.Need-add-word
 add-word c = search needs

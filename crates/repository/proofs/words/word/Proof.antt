@@ -1,8 +1,8 @@
 -- `word`: the index is in range, and the word is the section's.
 use borrow.Author.Needs.{needs}
 use Rattle.repository.specs.Sections.{sec}
-use Rattle.repository.proofs.word.Statement.{statement}
-use Rattle.repository.proofs.word.Tie as tie
+use Rattle.repository.proofs.words.word.Statement.{statement}
+use Rattle.repository.proofs.words.word.Tie as tie
 
 mul-at : tie.Need-mul-at
 mul-at c = search needs

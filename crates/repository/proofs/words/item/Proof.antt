@@ -1,11 +1,11 @@
 -- `item`: section k ends inside the tables.
 use borrow.Author.Needs.{needs}
-use Rattle.check_calls.proofs.Rooms.{word-in}
-use Rattle.check_calls.proofs.words.item.Statement.{statement}
-use Rattle.check_calls.proofs.words.item.Tie as tie
+use Rattle.repository.proofs.Rooms.{room}
+use Rattle.repository.proofs.words.item.Statement.{statement}
+use Rattle.repository.proofs.words.item.Tie as tie
 
 word-requires : tie.Need-word-requires
-word-requires c κs = (search needs, search (needs, word-in))
+word-requires c κs = (search needs, search (needs, room))
 
 returns : tie.Need-returns
 returns c = search needs

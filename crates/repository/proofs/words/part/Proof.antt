@@ -1,8 +1,8 @@
 -- `part`: it ends within the words, and holds the section's words.
 use borrow.Author.Needs.{needs}
 use Rattle.repository.proofs.Leaves.{part-end, part-is}
-use Rattle.repository.proofs.part.Statement.{statement}
-use Rattle.repository.proofs.part.Tie as tie
+use Rattle.repository.proofs.words.part.Statement.{statement}
+use Rattle.repository.proofs.words.part.Tie as tie
 
 head-requires : tie.Need-head-requires
 head-requires c κs = search needs

@@ -1,8 +1,8 @@
 -- `listing`: the words from the entry to the next.
 use borrow.Author.Needs.{needs}
 use Rattle.repository.proofs.Reading.{listing-is}
-use Rattle.repository.proofs.listing.Statement.{statement}
-use Rattle.repository.proofs.listing.Tie as tie
+use Rattle.repository.proofs.words.listing.Statement.{statement}
+use Rattle.repository.proofs.words.listing.Tie as tie
 
 row-from-requires : tie.Need-row-from-requires
 row-from-requires c κs = search needs

@@ -1,8 +1,8 @@
 -- `rows_of`: whole rows.
 use borrow.Author.Needs.{needs}
-use Rattle.check_calls.proofs.Entries.{rows-is}
-use Rattle.check_calls.proofs.words.rows_of.Statement.{statement}
-use Rattle.check_calls.proofs.words.rows_of.Tie as tie
+use Rattle.repository.proofs.Leaves.{rows-is}
+use Rattle.repository.proofs.words.rows_of.Statement.{statement}
+use Rattle.repository.proofs.words.rows_of.Tie as tie
 
 size-of-requires : tie.Need-size-of-requires
 size-of-requires c κs = search needs

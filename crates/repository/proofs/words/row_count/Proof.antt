@@ -2,8 +2,8 @@
 use borrow.Author.Needs.{needs}
 use Rattle.repository.proofs.Leaves.{entry-rise}
 use Rattle.repository.specs.NetOf.{count}
-use Rattle.repository.proofs.row_count.Statement.{statement}
-use Rattle.repository.proofs.row_count.Tie as tie
+use Rattle.repository.proofs.words.row_count.Statement.{statement}
+use Rattle.repository.proofs.words.row_count.Tie as tie
 
 row-to-requires : tie.Need-row-to-requires
 row-to-requires c κs = search needs
