@@ -1,11 +1,12 @@
 #!/usr/bin/env python3
-"""Holds that the layout of the tables has its numbers in one place.
+"""Holds that the layout of the tables has its numbers in one place, and the limits theirs.
 
     sections.py           says every bare section number, header word or row width that is left in crates/; exit 1 if there is any,
-                          or if the two files that name them differ
+                          or if the two files that name them differ, for the sections or for the limits
 
 The numbers stand in crates/repository/specs/Sections.antt and, for code, in crates/repository/src/sections.rt. Everywhere else
 a section is called by its name: `sec w CALLS j` and `word(tables, sections::CALLS, j)`, never `sec w 5 j` nor `word(tables, 5, j)`.
+The limits stand in crates/model/specs/Limits.antt and, for code, in crates/repository/src/limits.rt.
 """
 import os
 import re
@@ -14,6 +15,8 @@ import sys
 TREE = os.path.dirname(os.path.dirname(os.path.abspath(__file__)))
 SPECS = os.path.join("crates", "repository", "specs", "Sections.antt")
 CODE = os.path.join("crates", "repository", "src", "sections.rt")
+LIMITS = os.path.join("crates", "model", "specs", "Limits.antt")
+LIMITS_CODE = os.path.join("crates", "repository", "src", "limits.rt")
 
 # definitions and laws by the place of the section among their arguments, counted from 0
 SECOND = """sec size rows count start Under Starts among fresh distinct indexed inRange under starting Entry Part Words listOf
@@ -108,18 +111,23 @@ def line_of(text, at):
     return text[text.rfind("\n", 0, at) + 1:text.find("\n", at) if text.find("\n", at) >= 0 else len(text)]
 
 
-def named():
-    """The names of both files with their numbers."""
-    specs = open(os.path.join(TREE, SPECS), encoding="utf-8").read()
-    code = open(os.path.join(TREE, CODE), encoding="utf-8").read()
-    of_specs = {n: int(v) for n, v in re.findall(r"^([A-Z][A-Z-]*) = (\d+)$", specs, re.M)}
-    of_code = {n.replace("_", "-"): int(v) for n, v in re.findall(r"^pub const ([A-Z_]+): usize = (\d+);$", code, re.M)}
-    return of_specs, of_code
+def named(specs, code):
+    """The names of a file of definitions and of one of constants, with their numbers."""
+    with open(os.path.join(TREE, specs), encoding="utf-8") as file:
+        of_specs = {n: int(v) for n, v in re.findall(r"^([A-Z][A-Z-]*) = ([\d_]+)$", file.read(), re.M)}
+    with open(os.path.join(TREE, code), encoding="utf-8") as file:
+        found = re.findall(r"^pub const ([A-Z_]+): (?:usize|u32) = ([\d_]+);$", file.read(), re.M)
+    return of_specs, {n.replace("_", "-"): int(v) for n, v in found}
 
 
 def main():
     faults = []
-    of_specs, of_code = named()
+    of_specs, of_code = named(LIMITS, LIMITS_CODE)
+    for name, number in of_code.items():
+        if of_specs.get(name) != number:
+            faults.append("%s: %s is %d, and in %s %s" % (LIMITS_CODE, name, number, LIMITS, of_specs.get(name)))
+    limits = len(of_code)
+    of_specs, of_code = named(SPECS, CODE)
     for name, number in of_specs.items():
         if of_code.get(name) != number:
             faults.append("%s: %s is %d, and in %s %s" % (SPECS, name, number, CODE, of_code.get(name)))
@@ -142,7 +150,7 @@ def main():
     if faults:
         print("sections: %d bare numbers or faults" % len(faults))
         return 1
-    print("sections: %d names, and no bare number in %d files" % (len(of_specs), files))
+    print("sections: %d names and %d limits, and no bare number in %d files" % (len(of_specs), limits, files))
     return 0
 
 

@@ -134,7 +134,8 @@ module _ {w : List ℕ} (l : Laid w) (passed : listed w ≡ true) where
   unfolding areasListed
   area-row i h = index-shown w AREA-STOPS (stops w) (and-left (inRange w AREA-STOPS (stops w)) (areasOnce w) (whole .sixth)) i h
 
-  area-apart : (a i j : ℕ) → a < areas w → Under w AREA-STARTS a i → i < j → j < sec w AREA-STARTS (a + 1) → sec w AREA-STOPS i ≢ sec w AREA-STOPS j
+  area-apart : (a i j : ℕ) → a < areas w → Under w AREA-STARTS a i → i < j → j < sec w AREA-STARTS (a + 1)
+      → sec w AREA-STOPS i ≢ sec w AREA-STOPS j
   unfolding areasListed areasOnce areaOnce
   area-apart a i j h u g to =
       let once = each-shown (areaOnce w) (areas w) (and-right (inRange w AREA-STOPS (stops w)) (areasOnce w) (whole .sixth)) a h in

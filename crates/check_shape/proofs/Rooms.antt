@@ -77,7 +77,8 @@ module _ {w : List ℕ} (h : Headed w) (r : Roomy w) where
     pub trips-asked : Headed w × (ROUTE-TRIP-STARTS + 1 < SECTIONS × (n < size w ROUTE-TRIP-STARTS × 0 < 1))
     trips-asked = (h, (omega arith, (rw e (r .trip-room), omega arith)))
 
-  pub times-asked : {n : ℕ} → n ≡ size w TIME-STARTS - 1 → Headed w × (TIME-STARTS + 1 < SECTIONS × (n < size w TIME-STARTS × 0 < TIME-WORDS))
+  pub times-asked : {n : ℕ} → n ≡ size w TIME-STARTS - 1
+      → Headed w × (TIME-STARTS + 1 < SECTIONS × (n < size w TIME-STARTS × 0 < TIME-WORDS))
   times-asked e = (h, (omega arith, (rw e (r .time-room), omega arith)))
 
   pub areas-asked : {n : ℕ} → n ≡ size w AREA-STARTS - 1 → Headed w × (AREA-STARTS + 1 < SECTIONS × (n < size w AREA-STARTS × 0 < 1))

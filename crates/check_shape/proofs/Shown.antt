@@ -30,20 +30,26 @@ module _ (w : List ℕ) where
 
   abbrev sizeTests : List Bool
   sizeTests =
-      eqb (size w STATIONS) (stops w) ∷ eqb (size w CHILD-STARTS) (stops w + 1) ∷ eqb (size w CALL-STARTS) (stops w + 1) ∷ eqb (size w SERVED) (stops w)
-      ∷ eqb (size w TRANSFER-STARTS) (stops w + 1) ∷ eqb (size w WALK-STARTS) (stops w + 1) ∷ leb 1 (size w ROUTE-STOP-STARTS) ∷ eqb (size w ROUTE-TRIP-STARTS) (size w ROUTE-STOP-STARTS)
+      eqb (size w STATIONS) (stops w) ∷ eqb (size w CHILD-STARTS) (stops w + 1) ∷ eqb (size w CALL-STARTS) (stops w + 1)
+      ∷ eqb (size w SERVED) (stops w)
+      ∷ eqb (size w TRANSFER-STARTS) (stops w + 1) ∷ eqb (size w WALK-STARTS) (stops w + 1) ∷ leb 1 (size w ROUTE-STOP-STARTS)
+      ∷ eqb (size w ROUTE-TRIP-STARTS) (size w ROUTE-STOP-STARTS)
       ∷ leb 1 (size w TIME-STARTS) ∷ eqb (size w ROUTE-TRIPS) (trips w) ∷ leb 1 (size w AREA-STARTS)
-      ∷ eqb (size w CALLS % CALL-WORDS) 0 ∷ eqb (size w TRANSFERS % TRANSFER-WORDS) 0 ∷ eqb (size w WALKS % WALK-WORDS) 0 ∷ eqb (size w TIMES % TIME-WORDS) 0 ∷ []
+      ∷ eqb (size w CALLS % CALL-WORDS) 0 ∷ eqb (size w TRANSFERS % TRANSFER-WORDS) 0 ∷ eqb (size w WALKS % WALK-WORDS) 0
+      ∷ eqb (size w TIMES % TIME-WORDS) 0 ∷ []
 
   abbrev limitTests : List Bool
   limitTests =
       leb (stops w) MOST-STOPS ∷ leb (routes w) MOST-ROUTES ∷ leb (trips w) MOST-TRIPS ∷ leb (rows w TIMES TIME-WORDS) MOST-STOP-TIMES
-      ∷ leb (rows w TRANSFERS TRANSFER-WORDS) MOST-TRANSFERS ∷ leb (rows w WALKS WALK-WORDS) MOST-WALKS ∷ leb (areas w) MOST-AREAS ∷ leb (size w AREA-STOPS) MOST-AREA-ENTRIES ∷ []
+      ∷ leb (rows w TRANSFERS TRANSFER-WORDS) MOST-TRANSFERS ∷ leb (rows w WALKS WALK-WORDS) MOST-WALKS ∷ leb (areas w) MOST-AREAS
+      ∷ leb (size w AREA-STOPS) MOST-AREA-ENTRIES ∷ []
 
   abbrev startTests : List Bool
   startTests =
-      starting w CHILD-STARTS (stops w) (size w CHILDREN) ∷ starting w CALL-STARTS (stops w) (rows w CALLS CALL-WORDS) ∷ starting w TRANSFER-STARTS (stops w) (rows w TRANSFERS TRANSFER-WORDS)
-      ∷ starting w WALK-STARTS (stops w) (rows w WALKS WALK-WORDS) ∷ starting w ROUTE-STOP-STARTS (routes w) (size w ROUTE-STOPS) ∷ starting w ROUTE-TRIP-STARTS (routes w) (size w ROUTE-TRIPS)
+      starting w CHILD-STARTS (stops w) (size w CHILDREN) ∷ starting w CALL-STARTS (stops w) (rows w CALLS CALL-WORDS)
+      ∷ starting w TRANSFER-STARTS (stops w) (rows w TRANSFERS TRANSFER-WORDS)
+      ∷ starting w WALK-STARTS (stops w) (rows w WALKS WALK-WORDS) ∷ starting w ROUTE-STOP-STARTS (routes w) (size w ROUTE-STOPS)
+      ∷ starting w ROUTE-TRIP-STARTS (routes w) (size w ROUTE-TRIPS)
       ∷ starting w TIME-STARTS (trips w) (rows w TIMES TIME-WORDS) ∷ starting w AREA-STARTS (areas w) (size w AREA-STOPS) ∷ []
 
   -- each part's tests pass where the part does

@@ -43,22 +43,29 @@ headed-is w g ea eb et = rw (le-leb HEADER (length w) g, ea, eb, et)
 
 -- the sizes and the limits, by the sizes that were read
 pub stop-sized-is : (w : List ℕ) {s stations children calls served transfers walks : ℕ} → s ≡ size w STOP-LIST
-    → stations ≡ size w STATIONS → children ≡ size w CHILD-STARTS → calls ≡ size w CALL-STARTS → served ≡ size w SERVED → transfers ≡ size w TRANSFER-STARTS → walks ≡ size w WALK-STARTS
-    → eqb stations s && eqb children (s + 1) && eqb calls (s + 1) && eqb served s && eqb transfers (s + 1) && eqb walks (s + 1) ≡ stopSized w
+    → stations ≡ size w STATIONS → children ≡ size w CHILD-STARTS → calls ≡ size w CALL-STARTS → served ≡ size w SERVED
+    → transfers ≡ size w TRANSFER-STARTS → walks ≡ size w WALK-STARTS
+    → eqb stations s && eqb children (s + 1) && eqb calls (s + 1) && eqb served s && eqb transfers (s + 1)
+    && eqb walks (s + 1) ≡ stopSized w
 unfolding stopSized
 stop-sized-is w es est ech eca ese etr ewa = rw (est, ech, eca, ese, etr, ewa, es)
 
-pub sized-is : (w : List ℕ) {b : Bool} {r trip-starts time-starts route-trips t area-starts calls transfers walks times : ℕ} → b ≡ stopSized w → r ≡ size w ROUTE-STOP-STARTS
-    → trip-starts ≡ size w ROUTE-TRIP-STARTS → time-starts ≡ size w TIME-STARTS → route-trips ≡ size w ROUTE-TRIPS → t ≡ size w TIME-STARTS - 1 → area-starts ≡ size w AREA-STARTS
+pub sized-is : (w : List ℕ) {b : Bool} {r trip-starts time-starts route-trips t area-starts calls transfers walks times : ℕ}
+    → b ≡ stopSized w → r ≡ size w ROUTE-STOP-STARTS
+    → trip-starts ≡ size w ROUTE-TRIP-STARTS → time-starts ≡ size w TIME-STARTS → route-trips ≡ size w ROUTE-TRIPS
+    → t ≡ size w TIME-STARTS - 1 → area-starts ≡ size w AREA-STARTS
     → calls ≡ size w CALLS → transfers ≡ size w TRANSFERS → walks ≡ size w WALKS → times ≡ size w TIMES
     → b && leb 1 r && eqb trip-starts r && leb 1 time-starts && eqb route-trips t && leb 1 area-starts
-    && eqb (calls % CALL-WORDS) 0 && eqb (transfers % TRANSFER-WORDS) 0 && eqb (walks % WALK-WORDS) 0 && eqb (times % TIME-WORDS) 0 ≡ sized w
+    && eqb (calls % CALL-WORDS) 0 && eqb (transfers % TRANSFER-WORDS) 0 && eqb (walks % WALK-WORDS) 0
+    && eqb (times % TIME-WORDS) 0 ≡ sized w
 unfolding sized stopSized
 sized-is w eb er e13 e15 e14 et e17 e5 e8 e10 e16 = rw (eb, er, e13, e15, e14, et, e17, e5, e8, e10, e16)
 
-pub limited-is : (w : List ℕ) {s r t times transfers walks a named : ℕ} → s ≡ size w STOP-LIST → r ≡ size w ROUTE-STOP-STARTS - 1 → t ≡ size w TIME-STARTS - 1
+pub limited-is : (w : List ℕ) {s r t times transfers walks a named : ℕ} → s ≡ size w STOP-LIST → r ≡ size w ROUTE-STOP-STARTS - 1
+    → t ≡ size w TIME-STARTS - 1
     → times ≡ size w TIMES → transfers ≡ size w TRANSFERS → walks ≡ size w WALKS → a ≡ size w AREA-STARTS - 1 → named ≡ size w AREA-STOPS
-    → leb s MOST-STOPS && leb r MOST-ROUTES && leb t MOST-TRIPS && leb (times / TIME-WORDS) MOST-STOP-TIMES && leb (transfers / TRANSFER-WORDS) MOST-TRANSFERS
+    → leb s MOST-STOPS && leb r MOST-ROUTES && leb t MOST-TRIPS && leb (times / TIME-WORDS) MOST-STOP-TIMES
+    && leb (transfers / TRANSFER-WORDS) MOST-TRANSFERS
     && leb (walks / WALK-WORDS) MOST-WALKS && leb a MOST-AREAS && leb named MOST-AREA-ENTRIES ≡ limited w
 unfolding limited
 limited-is w es er et e16 e8 e10 ea e18 = rw (es, er, et, e16, e8, e10, ea, e18)

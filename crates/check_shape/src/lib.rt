@@ -14,7 +14,7 @@ use repository::sections;
 use repository::words;
 
 // How many words section k has.
-pub fn size_of(tables: &[u32], k: usize) -> usize
+fn size_of(tables: &[u32], k: usize) -> usize
     requires { ⌜ Headed (now tables) ⌝ }
     requires { ⌜ k < SECTIONS ⌝ }
     ensures { λ r. ⌜ r ≡ size (now (tables .entry)) k ⌝ }
@@ -26,7 +26,7 @@ pub fn size_of(tables: &[u32], k: usize) -> usize
 }
 
 // How many entries the starts section k has: its last word only ends the list.
-pub fn entries(tables: &[u32], k: usize) -> usize
+fn entries(tables: &[u32], k: usize) -> usize
     requires { ⌜ Headed (now tables) ⌝ }
     requires { ⌜ k < SECTIONS ⌝ }
     ensures { λ r. ⌜ r ≡ size (now (tables .entry)) k - 1 ⌝ }
@@ -158,7 +158,7 @@ fn all_starts_ok(tables: &[u32]) -> bool
 }
 
 // How many rows entry i of the starts section k has.
-pub fn count_of(tables: &[u32], k: usize, i: usize) -> usize
+fn count_of(tables: &[u32], k: usize, i: usize) -> usize
     requires { ⌜ Headed (now tables) ⌝ }
     requires { ⌜ k < SECTIONS ⌝ }
     requires { ⌜ i + 1 < size (now tables) k ⌝ }

@@ -1,5 +1,5 @@
 -- What the answers of the tests for numbers 3 and 4 come to.
-use Prim.Native.Nat.{ℕ, zero, suc, _+_, _-_, _*_, _≤_, _<_}
+use Prim.Native.Nat.{ℕ, zero, suc, _+_, _-_, _≤_, _<_}
 use mathlib.Core.Path.{_≡_, refl, sym, _∙_}
 use mathlib.Core.Bool.{Bool, true, false, _&&_, and-true, true≢false}
 use mathlib.Core.List.{List}
@@ -10,39 +10,34 @@ use borrow.Author.Tests.{le-leb, lt-leb}
 use Rattle.base.proofs.Choice.{split}
 use Rattle.model.specs.Tables.{Net}
 use Rattle.model.specs.Limits.{LAST-MOMENT}
-use Rattle.repository.specs.Sections.{sec, TIME-STARTS, TIMES, TIME-WORDS, arrivalIn}
+use Rattle.repository.specs.Sections.{arrivalIn, departureIn}
 use Rattle.repository.specs.NetOf.{netOf}
+use Rattle.repository.specs.Rows.{timeRow}
 use Rattle.repository.specs.Checked.{walk, timely, behind, ordered}
+use Rattle.repository.proofs.Trips.{arrival-is, departure-is}
 use Rattle.check_times.proofs.Walk.{walk-at, walk-so}
 
--- the times of a row
-module _ (w : List ℕ) (r p i : ℕ) {j : ℕ} (ej : j ≡ sec w TIME-STARTS (netOf w .tripAt r i) + p) where
-  pub arrival-is : {a : ℕ} → a ≡ sec w TIMES (j * TIME-WORDS) → a ≡ netOf w .arrival (netOf w .tripAt r i) p
-  unfolding netOf
-  arrival-is ea = rw (ea, ej)
+-- what a row's times come to
+module _ (w : List ℕ) (r p i : ℕ) {row a d end : ℕ} (er : row ≡ timeRow w (netOf w .tripAt r i)) (ea : a ≡ arrivalIn w row p)
+    (ed : d ≡ departureIn w row p) (ee : end ≡ netOf w .positions r) where
+  arrives : a ≡ netOf w .arrival (netOf w .tripAt r i) p
+  arrives = arrival-is w (netOf w .tripAt r i) p er ea
 
-  pub departure-is : {d : ℕ} → d ≡ sec w TIMES (j * TIME-WORDS + 1) → d ≡ netOf w .departure (netOf w .tripAt r i) p
-  unfolding netOf
-  departure-is ed = rw (ed, ej)
+  departs : d ≡ netOf w .departure (netOf w .tripAt r i) p
+  departs = departure-is w (netOf w .tripAt r i) p er ed
 
-  pub next-is : {a : ℕ} → a ≡ arrivalIn w j 1 → a ≡ netOf w .arrival (netOf w .tripAt r i) (p + 1)
-  unfolding netOf
-  next-is ea =
-      let e : j + 1 ≡ sec w TIME-STARTS (netOf w .tripAt r i) + (p + 1) = omega arith in
-      rw (ea, e)
+  pub timely-next : {b : ℕ} → p + 1 < end → b ≡ arrivalIn w row (p + 1)
+      → leb 1 a && leb a d && leb d LAST-MOMENT && leb d b ≡ timely (netOf w) r p i
+  unfolding timely
+  timely-next g eb =
+      let next = arrival-is w (netOf w .tripAt r i) (p + 1) er eb in
+      rw (← ee, lt-leb end (p + 1) g, ← arrives, ← departs, ← next)
 
-  module _ {a d end : ℕ} (ea : a ≡ sec w TIMES (j * TIME-WORDS)) (ed : d ≡ sec w TIMES (j * TIME-WORDS + 1)) (ee : end ≡ netOf w .positions r)
-    where
-      pub timely-next : {b : ℕ} → p + 1 < end → b ≡ arrivalIn w j 1
-          → leb 1 a && leb a d && leb d LAST-MOMENT && leb d b ≡ timely (netOf w) r p i
-      unfolding timely
-      timely-next g eb = rw (← ee, lt-leb end (p + 1) g, ← arrival-is ea, ← departure-is ed, ← next-is eb)
-
-      pub timely-last : end ≤ p + 1 → leb 1 a && leb a d && leb d LAST-MOMENT ≡ timely (netOf w) r p i
-      unfolding timely
-      timely-last g =
-          let stays = leb 1 a && leb a d && leb d LAST-MOMENT in
-          rw (← ee, le-leb end (p + 1) g, ← arrival-is ea, ← departure-is ed, and-true stays)
+  pub timely-last : end ≤ p + 1 → leb 1 a && leb a d && leb d LAST-MOMENT ≡ timely (netOf w) r p i
+  unfolding timely
+  timely-last g =
+      let stays = leb 1 a && leb a d && leb d LAST-MOMENT in
+      rw (← ee, le-leb end (p + 1) g, ← arrives, ← departs, and-true stays)
 
 -- the moment of the trip before, and 0 before the first
 abbrev before : (ℕ → ℕ) → ℕ → ℕ

@@ -31,17 +31,17 @@ Inv-all tables m ok₀ r₀ ok r = OnRoutes (netOf tables) 0 (behind (netOf tabl
 abbrev μ-all : tie.MeasureT-all
 μ-all tables m ok₀ r₀ ok r = m - r
 
-routes-requires : tie.Need-routes-requires Inv-loop2 μ-loop2 Inv-loop μ-loop Inv-all μ-all
-routes-requires c κs = search needs
+route-count-requires : tie.Need-route-count-requires Inv-loop2 μ-loop2 Inv-loop μ-loop Inv-all μ-all
+route-count-requires c κs = search needs
 
 all-holds : tie.Need-all-holds Inv-loop2 μ-loop2 Inv-loop μ-loop Inv-all μ-all
 all-holds c = search (needs, routes-start)
 
-positions-requires : tie.Need-positions-requires Inv-loop2 μ-loop2 Inv-loop μ-loop Inv-all μ-all
-positions-requires c κs = search needs
+route-len-requires : tie.Need-route-len-requires Inv-loop2 μ-loop2 Inv-loop μ-loop Inv-all μ-all
+route-len-requires c κs = search needs
 
-trips-requires : tie.Need-trips-requires Inv-loop2 μ-loop2 Inv-loop μ-loop Inv-all μ-all
-trips-requires c κs = search needs
+trips-of-route-requires : tie.Need-trips-of-route-requires Inv-loop2 μ-loop2 Inv-loop μ-loop Inv-all μ-all
+trips-of-route-requires c κs = search needs
 
 loop-holds : tie.Need-loop-holds Inv-loop2 μ-loop2 Inv-loop μ-loop Inv-all μ-all
 loop-holds c = search (needs, positions-start)
@@ -95,10 +95,10 @@ order-ok-spec =
     μ-loop
     Inv-all
     μ-all
-    routes-requires
+    route-count-requires
     all-holds
-    positions-requires
-    trips-requires
+    route-len-requires
+    trips-of-route-requires
     loop-holds
     loop2-holds
     stop-time-requires

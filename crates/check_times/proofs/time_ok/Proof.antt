@@ -4,35 +4,23 @@ use Rattle.check_times.proofs.Tests.{timely-next, timely-last}
 use Rattle.check_times.proofs.time_ok.Statement.{statement}
 use Rattle.check_times.proofs.time_ok.Tie as tie
 
-row-at-requires : tie.Need-row-at-requires
-row-at-requires c κs = search needs
+row-of-requires : tie.Need-row-of-requires
+row-of-requires c κs = search needs
 
-mul-word : tie.Need-mul-word
-mul-word c = search needs
+arrival-in-requires : tie.Need-arrival-in-requires
+arrival-in-requires c κs = search needs
 
-word-requires : tie.Need-word-requires
-word-requires c κs = search needs
-
-mul-word-2 : tie.Need-mul-word-2
-mul-word-2 c = search needs
-
-add-word : tie.Need-add-word
-add-word c = search needs
-
-word-requires-2 : tie.Need-word-requires-2
-word-requires-2 c κs = search needs
+departure-in-requires : tie.Need-departure-in-requires
+departure-in-requires c κs = search needs
 
 add-if1 : tie.Need-add-if1
 add-if1 c = search needs
 
-add-word-2 : tie.Need-add-word-2
-add-word-2 c = search needs
+add-arrival-in : tie.Need-add-arrival-in
+add-arrival-in c = search needs
 
-mul-word-3 : tie.Need-mul-word-3
-mul-word-3 c = search needs
-
-word-requires-3 : tie.Need-word-requires-3
-word-requires-3 c κs = search needs
+arrival-in-requires-2 : tie.Need-arrival-in-requires-2
+arrival-in-requires-2 c κs = search needs
 
 returns : tie.Need-returns
 returns c = search (needs, timely-next)
@@ -44,15 +32,11 @@ pub time-ok-spec : {M : Type 1} → statement M
 time-ok-spec =
     tie.close
     (tie.spec
-    row-at-requires
-    mul-word
-    word-requires
-    mul-word-2
-    add-word
-    word-requires-2
+    row-of-requires
+    arrival-in-requires
+    departure-in-requires
     add-if1
-    add-word-2
-    mul-word-3
-    word-requires-3
+    add-arrival-in
+    arrival-in-requires-2
     returns
     returns-2)
