@@ -3,7 +3,7 @@ ghost use mathlib.Core.Path.{_≡_};
 ghost use Prim.Native.Nat.{_≤_, _<_};
 ghost use lib.ListN.{length};
 ghost use Rattle.lines.specs.Token.{longerBy};
-ghost use Rattle.lines.specs.Step.{fresh, closed, stored, begun, lineAfter, wordsAfter};
+ghost use Rattle.lines.specs.Step.{emptyLine, closed, withWord, nextLine, lineAfter, wordsAfter};
 
 // What is known of the line so far.
 pub struct Line {
@@ -22,7 +22,7 @@ pub struct Line {
 
 // A line before its first byte.
 pub fn new() -> Line
-    ensures { λ l. ⌜ l ≡ fresh ⌝ }
+    ensures { λ l. ⌜ l ≡ emptyLine ⌝ }
     ensures { λ l. ⌜ l .value ≤ 4294967296 ⌝ }
 {
     Line {
@@ -58,7 +58,7 @@ pub fn longer(value: u64, b: u8) -> u64
 fn close(words: &mut [u32], l: Line) -> Line
     requires { ⌜ l .value ≤ 4294967296 ⌝ }
     ensures { λ r. ⌜ r ≡ closed (length (now (words .entry))) l ⌝ }
-    ensures { λ _. ⌜ now (words .exit) ≡ stored (now (words .entry)) l ⌝ }
+    ensures { λ _. ⌜ now (words .exit) ≡ withWord (now (words .entry)) l ⌝ }
     ensures { λ r. ⌜ r .value ≤ 4294967296 ⌝ }
 {
     let count = l.count;
@@ -111,8 +111,8 @@ fn close(words: &mut [u32], l: Line) -> Line
 // The line with one more byte. A byte after a line's end begins the next one.
 pub fn step(words: &mut [u32], l: Line, b: u8) -> Line
     requires { ⌜ l .value ≤ 4294967296 ⌝ }
-    ensures { λ r. ⌜ r ≡ lineAfter (length (now (words .entry))) (begun l) b ⌝ }
-    ensures { λ _. ⌜ now (words .exit) ≡ wordsAfter (now (words .entry)) (begun l) b ⌝ }
+    ensures { λ r. ⌜ r ≡ lineAfter (length (now (words .entry))) (nextLine l) b ⌝ }
+    ensures { λ _. ⌜ now (words .exit) ≡ wordsAfter (now (words .entry)) (nextLine l) b ⌝ }
     ensures { λ r. ⌜ r .value ≤ 4294967296 ⌝ }
 {
     if l.ended {

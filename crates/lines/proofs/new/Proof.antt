@@ -1,11 +1,11 @@
 -- `lines::new`: a line before its first byte.
 use borrow.Author.Needs.{needs}
-use Rattle.lines.specs.Step.{fresh}
+use Rattle.lines.specs.Step.{emptyLine}
 use Rattle.lines.proofs.new.Statement.{statement}
 use Rattle.lines.proofs.new.Tie as tie
 
 returns : tie.Need-returns
-unfolding fresh
+unfolding emptyLine
 returns c = search needs
 
 pub new-spec : {M : Type 1} → statement M
