@@ -14,7 +14,7 @@ use Rattle.arguments.specs.declared.moment.Moment.{Moment}
 use Rattle.arguments.specs.declared.moment.Moment.the-variants.{At, NoMinutes}
 use Rattle.arguments.specs.declared.moment.Clock.{Clock}
 use Rattle.arguments.specs.Digits.{numberIn}
-use Rattle.arguments.specs.Moment.{fits, sumOf, onHours, withSeconds, ofClock, ofSeconds, hasClockForm, clockIn, momentOf, face, clockOf}
+use Rattle.arguments.specs.Moment.{fits, sumOf, onHours, withSeconds, ofClock, ofSeconds, hasClockForm, clockIn, momentSaid, face, clockOf}
 
 module _ (h m s : ℕ) where
   pub sum-minutes : 59 < m → NoMinutes ≡ sumOf h m s
@@ -64,13 +64,13 @@ module _ (arg : List ℕ) where
 
   pub moment-clock : {b : Bool} {h m s : Number} {r : Moment} → b ≡ hasClockForm arg → b ≡ true
       → h ≡ numberIn arg 0 (length arg - 6) → m ≡ numberIn arg (length arg - 6 + 1) (length arg - 6 + 3)
-      → s ≡ numberIn arg (length arg - 6 + 4) (length arg - 6 + 6) → r ≡ ofClock h m s → r ≡ momentOf arg
-  unfolding momentOf clockIn
+      → s ≡ numberIn arg (length arg - 6 + 4) (length arg - 6 + 6) → r ≡ ofClock h m s → r ≡ momentSaid arg
+  unfolding momentSaid clockIn
   moment-clock e f eh em es er = er ∙ rw (← e, f, eh, em, es)
 
   pub moment-seconds : {b : Bool} {s : Number} {r : Moment} → b ≡ hasClockForm arg → b ≡ false → s ≡ numberIn arg 0 (length arg)
-      → r ≡ ofSeconds s → r ≡ momentOf arg
-  unfolding momentOf
+      → r ≡ ofSeconds s → r ≡ momentSaid arg
+  unfolding momentSaid
   moment-seconds e f es er = er ∙ rw (← e, f, es)
 
 module _ (t midnight : ℕ) where

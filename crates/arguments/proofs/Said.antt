@@ -13,7 +13,7 @@ use Rattle.arguments.specs.declared.options.Said.the-variants.{Walks, Mo
 use Rattle.arguments.specs.declared.place.Place.{Place}
 use Rattle.arguments.specs.Digits.{numberIn}
 use Rattle.arguments.specs.Word.{afterOf, beginsWith, same}
-use Rattle.arguments.specs.Place.{areaWord, numbered, located, placeOf}
+use Rattle.arguments.specs.Place.{areaWord, numbered, located, placeSaid}
 use Rattle.arguments.specs.Options.{walksWord, walksYes, walksNo, modeWord, modeSource, modeRescan, tablesWord, midnightWord, walksSaid, modeSaid, tablesSaid, midnightSaid, saidOf, withWalks, withMode, withTables, withMidnight, withSaid}
 
 pub located-number : {v : Number} {n : ℕ} {r : Place} (from : ℕ) → v ≡ Value n → r ≡ numbered from n → r ≡ located from v
@@ -21,8 +21,8 @@ unfolding located
 located-number from e f = rw e f
 
 pub place-is : (arg : List ℕ) {from : ℕ} {v : Number} {r : Place} → from ≡ afterOf arg areaWord → v ≡ numberIn arg from (length arg) → r ≡ located from v
-    → r ≡ placeOf arg
-unfolding placeOf
+    → r ≡ placeSaid arg
+unfolding placeSaid
 place-is arg e f g = g ∙ rw (f, e)
 
 module _ (arg : List ℕ) {y : Bool} where

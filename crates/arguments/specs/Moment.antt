@@ -51,8 +51,8 @@ clockIn arg =
     ofClock (numberIn arg 0 h) (numberIn arg (h + 1) (h + 3)) (numberIn arg (h + 4) (h + 6))
 
 -- H:MM:SS, or else seconds
-unfoldable pub momentOf : List ℕ → Moment
-momentOf arg = cond (hasClockForm arg) (clockIn arg) (ofSeconds (numberIn arg 0 (length arg)))
+unfoldable pub momentSaid : List ℕ → Moment
+momentSaid arg = cond (hasClockForm arg) (clockIn arg) (ofSeconds (numberIn arg 0 (length arg)))
 
 -- the clock's face so many seconds into a day, so many days before the day asked
 unfoldable pub face : ℕ → ℕ → Clock

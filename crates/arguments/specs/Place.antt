@@ -24,5 +24,5 @@ located from (Value n) = numbered from n
 located from NoNumber = Nothing
 located from NumberTooLarge = TooLarge
 
-unfoldable pub placeOf : List ℕ → Place
-placeOf arg = let from = afterOf arg areaWord in located from (numberIn arg from (length arg))
+unfoldable pub placeSaid : List ℕ → Place
+placeSaid arg = let from = afterOf arg areaWord in located from (numberIn arg from (length arg))

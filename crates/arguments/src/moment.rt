@@ -5,7 +5,7 @@ use super::bytes::Number;
 ghost use mathlib.Core.Path.{_≡_};
 ghost use mathlib.Core.Bool.{true};
 ghost use Prim.Native.Nat.{_+_};
-ghost use Rattle.arguments.specs.Moment.{fits, sumOf, onHours, withSeconds, ofClock, ofSeconds, hasClockForm, momentOf};
+ghost use Rattle.arguments.specs.Moment.{fits, sumOf, onHours, withSeconds, ofClock, ofSeconds, hasClockForm, momentSaid};
 ghost use Rattle.arguments.specs.Moment.{face as faceOf, clockOf};
 
 // A moment, or why there is none.
@@ -94,7 +94,7 @@ fn has_clock_form(arg: &[u8]) -> bool
 
 // The moment that an argument is.
 pub fn moment_of(arg: &[u8]) -> Moment
-    ensures { λ r. ⌜ r ≡ momentOf (now (arg .entry)) ⌝ }
+    ensures { λ r. ⌜ r ≡ momentSaid (now (arg .entry)) ⌝ }
 {
     if has_clock_form(arg) {
         let h = arg.len() - 6;

@@ -2,7 +2,7 @@
 use super::bytes;
 use super::bytes::Number;
 ghost use mathlib.Core.Path.{_≡_};
-ghost use Rattle.arguments.specs.Place.{numbered, located, placeOf};
+ghost use Rattle.arguments.specs.Place.{numbered, located, placeSaid};
 
 // A place, or why there is none.
 pub enum Place {
@@ -33,7 +33,7 @@ fn place_at(from: usize, number: Number) -> Place
 
 // The place that an argument is.
 pub fn place_of(arg: &[u8]) -> Place
-    ensures { λ r. ⌜ r ≡ placeOf (now (arg .entry)) ⌝ }
+    ensures { λ r. ⌜ r ≡ placeSaid (now (arg .entry)) ⌝ }
 {
     let from = bytes::after(arg, b"area:");
     let number = bytes::number_in(arg, from, arg.len());
