@@ -13,7 +13,7 @@ use Rattle.journey.specs.declared.LegRead.the-variants.{Whole, Bad as NoLeg, En
 use Rattle.journey.specs.declared.Reading.{Reading}
 use Rattle.journey.specs.declared.Reading.the-variants.{Legs, Bad}
 use Rattle.kiosk_c.specs.Legs.{readKind, readWord, readNumber, readLeft, legBytes, legWords, legNumber, legLeft}
-use Rattle.kiosk_words.specs.Words.{legIn}
+use Rattle.kiosk_words.specs.Words.{legToldIn}
 
 -- where there is no word for it
 module _ (x : Reading) (told : List ℕ) where
@@ -61,7 +61,7 @@ module _ (x : LegRead) (leg : List ℕ) (h : 6 ≤ length leg) {y : LegRead} (is
   unfolding legNumber legBytes
   whole-number e f = rw (le-leb 6 (length leg) h, sym is ∙ e) f
 
-  pub whole-left : {g : Leg} {m : List ℕ} → y ≡ Whole g → m ≡ legIn g leg → m ≡ legLeft x leg
+  pub whole-left : {g : Leg} {m : List ℕ} → y ≡ Whole g → m ≡ legToldIn g leg → m ≡ legLeft x leg
   unfolding legLeft legWords
   whole-left e f = rw (le-leb 6 (length leg) h, sym is ∙ e) f
 

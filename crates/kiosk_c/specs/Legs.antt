@@ -8,7 +8,7 @@ use lib.Dec.{leb}
 use lib.ListN.{length, drop}
 use Rattle.model.specs.declared.Leg.{Leg}
 use Rattle.model.specs.Bytes.{legSize}
-use Rattle.kiosk_words.specs.Words.{legIn}
+use Rattle.kiosk_words.specs.Words.{legToldIn}
 use Rattle.journey.specs.declared.LegRead.{LegRead}
 use Rattle.journey.specs.declared.LegRead.the-variants.{Whole, Bad as NoLeg, End}
 use Rattle.journey.specs.declared.Reading.{Reading}
@@ -37,7 +37,7 @@ legBytes NoLeg = 13
 legBytes End = 0
 
 unfoldable pub legWords : LegRead → List ℕ → List ℕ
-legWords (Whole g) leg = legIn g leg
+legWords (Whole g) leg = legToldIn g leg
 legWords NoLeg leg = leg
 legWords End leg = leg
 
@@ -55,5 +55,5 @@ LegCall b at r left = (leg : List ℕ) → 6 ≤ length leg → (legNumber (legF
 -- with nothing written
 pub data FaceLegsFrom (b : List ℕ) : ℕ → List Leg → Type 0 where
   over : {at : ℕ} → LegCall b at 0 (λ leg. leg) → FaceLegsFrom b at []
-  next : {at : ℕ} {gs : List Leg} (g : Leg) → LegCall b at (legSize (g .kind)) (legIn g) → FaceLegsFrom b (at + legSize (g .kind)) gs
+  next : {at : ℕ} {gs : List Leg} (g : Leg) → LegCall b at (legSize (g .kind)) (legToldIn g) → FaceLegsFrom b (at + legSize (g .kind)) gs
       → FaceLegsFrom b at (g ∷ gs)

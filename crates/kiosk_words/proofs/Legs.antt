@@ -8,7 +8,7 @@ use Rattle.model.specs.declared.Leg.{Leg}
 use Rattle.model.specs.declared.LegType.{LegType}
 use Rattle.model.specs.declared.LegType.the-variants.{Transit, Transfer, Walk}
 use Rattle.model.specs.Bytes.{kindByte, legSize}
-use Rattle.kiosk_words.specs.Words.{tripWord, legIn}
+use Rattle.kiosk_words.specs.Words.{tripWord, legToldIn}
 
 pub six : (a b c d e f : ℕ) (l : List ℕ) → 6 ≤ length l
     → set (set (set (set (set (set l 0 a) 1 b) 2 c) 3 d) 4 e) 5 f ≡ a ∷ b ∷ c ∷ d ∷ e ∷ f ∷ drop 6 l
@@ -34,18 +34,18 @@ module _ (g : Leg) where
   walk-bytes e = rw e
 
   pub ride-words : {v : ℕ} → g .kind ≡ Transit v → (l : List ℕ) {m : List ℕ}
-      → m ≡ 1 ∷ g .from ∷ g .to ∷ v ∷ g .departure .0 ∷ g .arrival .0 ∷ drop 6 l → m ≡ legIn g l
-  unfolding legIn kindByte tripWord
+      → m ≡ 1 ∷ g .from ∷ g .to ∷ v ∷ g .departure .0 ∷ g .arrival .0 ∷ drop 6 l → m ≡ legToldIn g l
+  unfolding legToldIn kindByte tripWord
   ride-words e l f = rw e f
 
   pub transfer-words : g .kind ≡ Transfer → (l : List ℕ) {m : List ℕ}
-      → m ≡ 2 ∷ g .from ∷ g .to ∷ 4_294_967_295 ∷ g .departure .0 ∷ g .arrival .0 ∷ drop 6 l → m ≡ legIn g l
-  unfolding legIn kindByte tripWord
+      → m ≡ 2 ∷ g .from ∷ g .to ∷ 4_294_967_295 ∷ g .departure .0 ∷ g .arrival .0 ∷ drop 6 l → m ≡ legToldIn g l
+  unfolding legToldIn kindByte tripWord
   transfer-words e l f = rw e f
 
   pub walk-words : g .kind ≡ Walk → (l : List ℕ) {m : List ℕ}
-      → m ≡ 3 ∷ g .from ∷ g .to ∷ 4_294_967_295 ∷ g .departure .0 ∷ g .arrival .0 ∷ drop 6 l → m ≡ legIn g l
-  unfolding legIn kindByte tripWord
+      → m ≡ 3 ∷ g .from ∷ g .to ∷ 4_294_967_295 ∷ g .departure .0 ∷ g .arrival .0 ∷ drop 6 l → m ≡ legToldIn g l
+  unfolding legToldIn kindByte tripWord
   walk-words e l f = rw e f
 
 -- ---- the six words tell the leg
@@ -62,8 +62,8 @@ same-kind Walk Transfer e f = absurd (omega arith)
 same-kind Walk Walk e f = refl
 
 -- two legs that are told alike are one leg
-pub told-apart : (g h : Leg) (l : List ℕ) → legIn g l ≡ legIn h l → g ≡ h
-unfolding legIn
+pub told-apart : (g h : Leg) (l : List ℕ) → legToldIn g l ≡ legToldIn h l → g ≡ h
+unfolding legToldIn
 told-apart g h l e =
     let kind : g .kind ≡ h .kind = same-kind (g .kind) (h .kind) (cc) (cc) in
     let from : g .from ≡ h .from = cc in

@@ -57,5 +57,5 @@ tripWord Transfer = MAX
 tripWord Walk = MAX
 
 -- a leg in the first six words
-unfoldable pub legIn : Leg → List ℕ → List ℕ
-legIn g leg = kindByte (g .kind) ∷ g .from ∷ g .to ∷ tripWord (g .kind) ∷ g .departure .0 ∷ g .arrival .0 ∷ drop 6 leg
+unfoldable pub legToldIn : Leg → List ℕ → List ℕ
+legToldIn g leg = kindByte (g .kind) ∷ g .from ∷ g .to ∷ tripWord (g .kind) ∷ g .departure .0 ∷ g .arrival .0 ∷ drop 6 leg

@@ -5,7 +5,7 @@ ghost use Prim.Native.Nat.{_≤_, _<_};
 ghost use lib.ListN.{length, drop};
 ghost use Rattle.model.specs.Answer.{given};
 ghost use Rattle.model.specs.Bytes.{legSize};
-ghost use Rattle.kiosk_words.specs.Words.{placeOf, timeOf, walksOf, modeOf, queryOf, toldIn, legIn};
+ghost use Rattle.kiosk_words.specs.Words.{placeOf, timeOf, walksOf, modeOf, queryOf, toldIn, legToldIn};
 use model::Answer;
 use model::Leg;
 use model::LegType;
@@ -161,7 +161,7 @@ fn put_leg(leg: &mut [u32], kind: u32, trip: u32, g: Leg)
 pub fn tell_leg(leg: &mut [u32], g: Leg) -> u32
     requires { ⌜ 6 ≤ length (now leg) ⌝ }
     ensures { λ r. ⌜ r ≡ legSize (g .kind) ⌝ }
-    ensures { λ _. ⌜ now (leg .exit) ≡ legIn g (now (leg .entry)) ⌝ }
+    ensures { λ _. ⌜ now (leg .exit) ≡ legToldIn g (now (leg .entry)) ⌝ }
 {
     let kind = g.kind;
     match kind {
