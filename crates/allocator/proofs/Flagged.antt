@@ -14,7 +14,7 @@ use lib.Pow.{pow-lt}
 use lib.Seq.{getD-set-same, getD-set-other}
 use Rattle.base.proofs.Choice.{split}
 use Rattle.base.specs.Tab.{tab}
-use Rattle.marks.specs.Marks.{marked, withMark, keep, chosenFrom, chosen, stops}
+use Rattle.marks.specs.Marks.{marked, withMark, keep, chosenFrom, chosen, markedStops}
 use Rattle.marks.proofs.Laws.{mark-length, mark-same, mark-other, clear-none}
 use Rattle.model.specs.Lists.{setIn}
 use Rattle.allocator.specs.Sections.{sect}
@@ -92,7 +92,7 @@ unfolding chosenFrom setIn tab
 in-order f zero i = refl
 in-order f (suc n) i = keeps (f i) i (chosenFrom f n (suc i)) ∙ ap (λ (l : List ℕ). cond (f i) (i ∷ l) l) (in-order f n (suc i))
 
-pub stops-after : (x : List ℕ) (n i : ℕ) → stops x i n ≡ after i (flags n x)
+pub stops-after : (x : List ℕ) (n i : ℕ) → markedStops x i n ≡ after i (flags n x)
 unfolding chosen after flags
 stops-after x n i =
     in-order (marked x) (n - i) i ∙ ap (setIn i) (sym (tab-drop (marked x) n 0 i ∙ ap (tab (marked x) (n - i)) (zero-add i)))

@@ -9,7 +9,7 @@ use native.Mathlib.Omega.{arith}
 use borrow.Author.Tests.{ne-eqb}
 use lib.Dec.{lit<}
 use lib.ListN.{getD, take, drop}
-use Rattle.marks.specs.Marks.{stops, firstOf}
+use Rattle.marks.specs.Marks.{markedStops, firstOf}
 use Rattle.marks.specs.declared.Next.{Next}
 use Rattle.model.specs.declared.Leg.{Leg}
 use Rattle.model.specs.declared.LegType.{LegType}
@@ -51,21 +51,21 @@ row-in s k i h g = omega (arith, mul-le-mul-right s (le-pred-of-lt h))
 
 -- ---- the next mark of a section
 module _ (s r : ℕ) (m : List ℕ) (i : ℕ) {x : Next} where
-  pub next-stop : (p : ℕ) → p ≡ pages s → x ≡ firstOf (stops (take (p - 0) (drop 0 m)) i s)
+  pub next-stop : (p : ℕ) → p ≡ pages s → x ≡ firstOf (markedStops (take (p - 0) (drop 0 m)) i s)
       → x ≡ firstOf (after i (markOf s r m))
   unfolding markOf sect
   next-stop p e f =
       let count : p - 0 ≡ pages s = omega arith in
       f ∙ rw (count, stops-after)
 
-  pub next-hold : (p : ℕ) → p ≡ pages s → x ≡ firstOf (stops (take (2 * p - p) (drop p m)) i s)
+  pub next-hold : (p : ℕ) → p ≡ pages s → x ≡ firstOf (markedStops (take (2 * p - p) (drop p m)) i s)
       → x ≡ firstOf (after i (heldMarkOf s r m))
   unfolding heldMarkOf sect
   next-hold p e f =
       let count : 2 * p - p ≡ pages s = omega arith in
       f ∙ rw (count, e, stops-after)
 
-  pub next-scan : (p q : ℕ) → p ≡ pages s → q ≡ pages r → x ≡ firstOf (stops (take (2 * p + q - 2 * p) (drop (2 * p) m)) i r)
+  pub next-scan : (p q : ℕ) → p ≡ pages s → q ≡ pages r → x ≡ firstOf (markedStops (take (2 * p + q - 2 * p) (drop (2 * p) m)) i r)
       → x ≡ firstOf (after i (maskOf s r m))
   unfolding maskOf sect
   next-scan p q e g f =

@@ -12,7 +12,7 @@ use lib.ListN.{getD}
 use lib.Count.{trailingZeros}
 use Rattle.base.specs.Bits.{bit}
 use Rattle.base.proofs.Bits.{bit-shr, bit-zero, bit-high, trailing-below, trailing-at}
-use Rattle.marks.specs.Marks.{marked, stops, firstOf}
+use Rattle.marks.specs.Marks.{marked, markedStops, firstOf}
 use Rattle.marks.specs.declared.Next.the-variants.{At, Nothing}
 use Rattle.marks.proofs.Chosen.{Clear, clear-join, clear-less, first-none, first-at}
 
@@ -63,8 +63,8 @@ module _ (ws : List ℕ) (from limit a k z : ℕ) (c : Clear (marked ws) from a)
   before : Clear (marked ws) from (a + z)
   before = clear-join (marked ws) from a (a + z) c (f .none-before)
 
-  pub answer-at : from ≤ a → a + z < limit → At (a + z) ≡ firstOf (stops ws from limit)
+  pub answer-at : from ≤ a → a + z < limit → At (a + z) ≡ firstOf (markedStops ws from limit)
   answer-at g h = first-at (marked ws) from limit (a + z) (omega arith) h before (f .is-marked)
 
-  pub answer-none : limit ≤ a + z → Nothing ≡ firstOf (stops ws from limit)
+  pub answer-none : limit ≤ a + z → Nothing ≡ firstOf (markedStops ws from limit)
   answer-none h = first-none (marked ws) from limit (clear-less (marked ws) from (a + z) limit h before)

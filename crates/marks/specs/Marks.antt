@@ -39,8 +39,8 @@ unfolding chosenFrom
 chosen f from limit = chosenFrom f (limit - from) from
 
 -- the marked stops from `from` up to below `limit`, ascending
-abbrev pub stops : List ℕ → ℕ → ℕ → List ℕ
-stops ws from limit = chosen (marked ws) from limit
+abbrev pub markedStops : List ℕ → ℕ → ℕ → List ℕ
+markedStops ws from limit = chosen (marked ws) from limit
 
 -- the first of a list of stops
 abbrev pub firstOf : List ℕ → Next
