@@ -20,31 +20,31 @@ use Rattle.asking.specs.declared.Asked.{Asked}
 use Rattle.asking.specs.declared.Asked.the-variants.{Query, Nothing}
 
 -- `s` (115) for a stop, `a` (97) for an area
-unfoldable pub placeOf : ℕ → ℕ → Place
-placeOf kind at = cond (eqb kind 115) (At (Stop at)) (cond (eqb kind 97) (At (Area at)) Nowhere)
+unfoldable pub placeIn : ℕ → ℕ → Place
+placeIn kind at = cond (eqb kind 115) (At (Stop at)) (cond (eqb kind 97) (At (Area at)) Nowhere)
 
 -- `d` (100) departs at the moment, `a` (97) arrives by it
-unfoldable pub momentOf : ℕ → ℕ → When
-momentOf kind m =
+unfoldable pub whenIn : ℕ → ℕ → When
+whenIn kind m =
     cond (eqb kind 100) (AtTime (Departure (record { 0 = m }))) (cond (eqb kind 97) (AtTime (Arrival (record { 0 = m }))) Never)
 
 -- 0 bars walks, 1 allows them, anything else does not say
-unfoldable pub walksOf : ℕ → Walks
-walksOf word = cond (eqb word 0) Barred (cond (eqb word 1) Allowed Unsaid)
+unfoldable pub walksIn : ℕ → Walks
+walksIn word = cond (eqb word 0) Barred (cond (eqb word 1) Allowed Unsaid)
 
 -- `r` (114) is the rescan mode, anything else the source's
-unfoldable pub modeOf : ℕ → Mode
-modeOf word = cond (eqb word 114) Rescan Source
+unfoldable pub modeIn : ℕ → Mode
+modeIn word = cond (eqb word 114) Rescan Source
 
 -- a query where each of its parts is one
-unfoldable pub between : Place → Place → When → Walks → Mode → Asked
-between (At f) (At t) (AtTime c) w m = Query (record { from = f; to = t; time = c; walks = w; mode = m })
-between (At f) (At t) Never w m = Nothing
-between (At f) Nowhere c w m = Nothing
-between Nowhere t c w m = Nothing
+unfoldable pub queryBetween : Place → Place → When → Walks → Mode → Asked
+queryBetween (At f) (At t) (AtTime c) w m = Query (record { from = f; to = t; time = c; walks = w; mode = m })
+queryBetween (At f) (At t) Never w m = Nothing
+queryBetween (At f) Nowhere c w m = Nothing
+queryBetween Nowhere t c w m = Nothing
 
 unfoldable pub queryIn : List ℕ → ℕ → Asked
 queryIn l how =
     cond (ltb (length l) 7) Nothing
-    (between (placeOf (getD l 0 0) (getD l 1 0)) (placeOf (getD l 2 0) (getD l 3 0)) (momentOf (getD l 4 0) (getD l 5 0))
-    (walksOf (getD l 6 0)) (modeOf how))
+    (queryBetween (placeIn (getD l 0 0) (getD l 1 0)) (placeIn (getD l 2 0) (getD l 3 0)) (whenIn (getD l 4 0) (getD l 5 0))
+    (walksIn (getD l 6 0)) (modeIn how))

@@ -1,6 +1,6 @@
 // What the programs share: a query from the words of a line, and its answer, with the workspace cut from slices that are large enough.
 ghost use mathlib.Core.Path.{_≡_};
-ghost use Rattle.asking.specs.Queries.{placeOf, momentOf, walksOf, modeOf, queryIn};
+ghost use Rattle.asking.specs.Queries.{placeIn, whenIn, walksIn, modeIn, queryIn};
 ghost use Rattle.raptor.specs.Lent.{lent};
 ghost use Rattle.asking.specs.Tells.{Tells};
 use model::Answer;
@@ -31,7 +31,7 @@ enum Place {
 }
 
 fn place_of(kind: u32, at: u32) -> Place
-    ensures { λ r. ⌜ r ≡ placeOf kind at ⌝ }
+    ensures { λ r. ⌜ r ≡ placeIn kind at ⌝ }
 {
     match kind {
         115 => return Place::At(Location::Stop(at)),
@@ -47,7 +47,7 @@ enum When {
 }
 
 fn moment_of(kind: u32, moment: u32) -> When
-    ensures { λ r. ⌜ r ≡ momentOf kind moment ⌝ }
+    ensures { λ r. ⌜ r ≡ whenIn kind moment ⌝ }
 {
     match kind {
         100 => return When::At(TimeConstraint::Departure(Time(moment))),
@@ -58,7 +58,7 @@ fn moment_of(kind: u32, moment: u32) -> When
 
 // 0 bars walks, 1 allows them, anything else does not say.
 fn walks(word: u32) -> Walks
-    ensures { λ r. ⌜ r ≡ walksOf word ⌝ }
+    ensures { λ r. ⌜ r ≡ walksIn word ⌝ }
 {
     match word {
         0 => return Walks::Barred,
@@ -69,7 +69,7 @@ fn walks(word: u32) -> Walks
 
 // `r` is the rescan mode, anything else the source's.
 fn mode(word: u32) -> Mode
-    ensures { λ r. ⌜ r ≡ modeOf word ⌝ }
+    ensures { λ r. ⌜ r ≡ modeIn word ⌝ }
 {
     if word == 114 {
         return Mode::Rescan;
