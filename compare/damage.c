@@ -126,7 +126,7 @@ int main(int argc, char **argv) {
     flat f = { 0 };
     seed = strtoull(argv[2], NULL, 10);
     for (unsigned long c = strtoul(argv[1], NULL, 10); c > 0; c--, seed++) {
-        make_nasty(&n, seed, 0);
+        make_nasty(&n, seed, 0, 1);
         flatten(&n, &f);
         if (f.len + 8 <= MOST_WORDS) for (int k = 0; k < CALLS_EACH; k++) call(&f);
     }

@@ -24,8 +24,7 @@ uint32_t ask(solver *f, const uint32_t *tables, size_t len, const lent *l, const
              l->at[ANSWER], l->len[ANSWER]);
 }
 
-/* Whether no served stop is a child of a stop that the area names. */
-static int barren(const uint32_t *t, uint32_t area) {
+int barren(const uint32_t *t, uint32_t area) {
     const uint32_t *area_start = section_of(t, AREA_STARTS), *child_start = section_of(t, CHILD_STARTS);
     for (uint32_t i = area_start[area]; i < area_start[area + 1]; i++) {
         uint32_t named = section_of(t, AREA_STOPS)[i];

@@ -23,6 +23,9 @@ void right_lengths(const uint32_t *tables, size_t *len);
 
 uint32_t ask(solver *f, const uint32_t *tables, size_t len, const lent *l, const query *q);
 
+/* Whether no served stop is a child of a stop that the area names. */
+int barren(const uint32_t *tables, uint32_t area);
+
 /* 7, 8 or 9 where a query on good tables is refused, else 0: plain C is asked good queries only. */
 uint32_t refusal(const uint32_t *tables, const query *q);
 

@@ -225,13 +225,13 @@ static void draw_input(input *in, uint64_t seed) {
     static network n;
     static flat f;
     grid middle = { 9, 8, 66, 3, 2, 3, 2 }, limit = { 4, 4, 1023 + (uint32_t)(seed >> 7) % 3, 1, 1, 3, 2 };
-    if (seed % 16 == 0) make_city(&n, seed % 128 == 32 ? limit : middle, seed); else make_nasty(&n, seed, 0);
+    if (seed % 16 == 0) make_city(&n, seed % 128 == 32 ? limit : middle, seed); else make_nasty(&n, seed, 0, 1);
     if (seed % 64 == 1) empty_network(&n), n.areas = 1;
     flatten(&n, &f);
     uint32_t when = below_n(2), mode = below_n(2), junk = PICK(0, 0xA5, 0xFF);
     in->h = (head){ .journey = 1024, .answer = 5, .room = 3, .told = 1, .leg = 6, .junk = (uint8_t)junk };
     if (n.stops == 0) in->h.q = (query){ .from_kind = 1, .to_kind = 1, .when = when, .moment = 1 };
-    else in->h.q = seed % 16 == 0 ? city_query(&n, when, mode) : nasty_query(&n);
+    else in->h.q = seed % 16 == 0 ? city_query(&n, when, mode) : nasty_query(&n, &f);
     if (in->h.q.mode == 0) in->h.q.mode = mode;
     in->bytes = 4 * least(f.len, MOST_WORDS);
     memcpy(in->word, f.word, in->bytes);

@@ -44,10 +44,10 @@ int small(unsigned long count, unsigned long seed) {
     for (unsigned long i = 0; i < count; i++) {
         query q[2][QUERIES_EACH];       /* in the source's mode, but for a mode that means nothing, and in rescan mode */
         uint8_t reaches[2][QUERIES_EACH] = { { 0 } };
-        make_nasty(&n, seed, i);
+        make_nasty(&n, seed, i, 1);
         flatten(&n, &t);
         for (int k = 0; k < QUERIES_EACH; k++) {
-            do q[0][k] = nasty_query(&n); while (refusal(t.word, &q[0][k]) == 9 && percent(80));
+            do q[0][k] = nasty_query(&n, &t); while (refusal(t.word, &q[0][k]) == 9 && percent(80));
             q[1][k] = q[0][k], q[1][k].mode = 1;
         }
         for (uint32_t mode = 0; mode < 2; mode++) find_reaching(&t, q[mode], mode, reaches[mode]);

@@ -2,6 +2,7 @@
 #include <stdio.h>
 #include <stdlib.h>
 #include <string.h>
+#include "lines.h"
 #include "rust.h"
 #include "writings.h"
 #include "../plain/check.h"
@@ -113,13 +114,13 @@ const char *differs(const flat *t, const query *q, int rust_too) {
     return both_ours_differ(t, q, number);
 }
 
-/* Three are shown; a city's tables are too long. */
+/* Three are shown. */
 void report(const char *what, const flat *t, const query *q) {
+    static const flat too_long = { 0 };
     if (++all.differing > 3) return;
-    printf("differs: %s (mode %u)\nnet", what, q->mode);
-    for (size_t i = 0; i < t->len && t->len < 4000; i++) printf(" %u", t->word[i]);
-    printf("\nq %c %u %c %u %c %u %u\n", q->from_kind ? 'a' : 's', q->from, q->to_kind ? 'a' : 's', q->to, q->when ? 'a' : 'd', q->moment,
-           q->walks != 2);
+    printf("differs: %s (mode %u)\n", what, q->mode);
+    print_network(t->len < 4000 ? t : &too_long);       /* a city's tables are not shown */
+    print_query(q);
 }
 int print_differing(void) {
     if (has_threads) printf("; over the real rayon %lu, %lu with other legs", all.with_threads, all.other_legs);

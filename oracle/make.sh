@@ -5,10 +5,10 @@ set -eu
 cd "$(dirname "$0")"
 {
     echo "# Networks and queries; answers.txt has one line for each q line, in this order. make.sh makes both (README.md)."
-    target/checked/flatten examples.txt
+    ./flatten.py examples.txt
     for seed in 1 2 3 4; do
         echo "# generated, seed $seed"
-        target/checked/generate $seed 500 | target/checked/select
+        ../compare/generate.sh $seed 500 | target/checked/select
     done
 } > target/cases.txt
 target/checked/oracle target/cases.txt > target/answers.txt

@@ -1,7 +1,7 @@
 //! One query through the source's search: the query line in, the answer line out.
 use crate::{
+    flat::doubled,
     lent,
-    network::doubled,
     raptor::{Allocator, Error, Leg, LegType, Location},
     repository::{Repository, source::build},
     shared::time::Time,

@@ -1,8 +1,8 @@
 //! The raptor part of vincbro/blaise a8db8932f7, unchanged, on flat tables; build.sh puts its text into target/blaise.
 //! With the feature `rescan` (rescan/Cargo.toml) it is the text with the route marks refilled before every round, in target/rescan.
+pub mod flat;
 pub mod harness;
 pub mod lent;
-pub mod network;
 
 // The source calls parts that stand in files not imported, and logs what is not logged here: it is not to be warned for it.
 #[allow(dead_code, unused_imports, unused_variables, private_interfaces)]

@@ -2,8 +2,8 @@
 //! lookup maps it fills, so the imported text stays unchanged.
 use super::super::*;
 use crate::{
+    flat::{Flat, NONE, Section},
     lent::Lent,
-    network::{Flat, NONE},
     shared::time::{Duration, Time},
 };
 
@@ -21,7 +21,7 @@ pub fn build(words: &[u32]) -> Result<(Repository, Lent), String> {
             name: name('s', i),
             normalized_name: name('s', i),
             coordinate: Coordinate::new(i as f32, 0.0),
-            parent_index: Some(f.section(1)[i]).filter(|&p| p != NONE),
+            parent_index: Some(f.section(Section::Stations)[i]).filter(|&p| p != NONE),
         })
         .collect();
     let areas: Vec<Area> = (0..a)
@@ -31,8 +31,8 @@ pub fn build(words: &[u32]) -> Result<(Repository, Lent), String> {
         .map(|i| RaptorRoute {
             index: i as u32,
             route_idx: i as u32,
-            stops: f.under(12, 1, i).into(),
-            trips: f.under(14, 1, i).into(),
+            stops: f.under(Section::RouteStops, 1, i).into(),
+            trips: f.under(Section::RouteTrips, 1, i).into(),
         })
         .collect();
 
@@ -53,11 +53,11 @@ pub fn build(words: &[u32]) -> Result<(Repository, Lent), String> {
     let mut stop_to_trips: Vec<Vec<u32>> = vec![vec![]; s];
     for i in 0..t {
         let route = &raptor_routes[trip_route[i] as usize];
-        let rows = f.under(16, 2, i);
+        let rows = f.under(Section::Times, 2, i);
         if rows.len() != 2 * route.stops.len() {
             return Err(format!("trip {i} has the wrong number of stop times"));
         }
-        let slice = Slice { start_idx: f.section(15)[i], count: route.stops.len() as u32 };
+        let slice = Slice { start_idx: f.section(Section::TimeStarts)[i], count: route.stops.len() as u32 };
         slices.push(slice);
         for (p, row) in rows.chunks(2).enumerate() {
             let stop = route.stops[p];
@@ -79,7 +79,7 @@ pub fn build(words: &[u32]) -> Result<(Repository, Lent), String> {
         }
     }
     for i in 0..s {
-        if (f.section(6)[i] == 1) == stop_to_trips[i].is_empty() {
+        if (f.section(Section::Served)[i] == 1) == stop_to_trips[i].is_empty() {
             return Err(format!("the served mark of stop {i} is wrong"));
         }
     }
@@ -93,7 +93,7 @@ pub fn build(words: &[u32]) -> Result<(Repository, Lent), String> {
         })
         .collect();
     let transfers: Vec<Transfer> = f
-        .section(8)
+        .section(Section::Transfers)
         .chunks(4)
         .map(|x| Transfer {
             from_stop_idx: x[0],
@@ -105,17 +105,17 @@ pub fn build(words: &[u32]) -> Result<(Repository, Lent), String> {
 
     // Only distances that are read are lent: those of unstated transfers and of walks.
     let mut pairs: Vec<(u32, u32, f32)> = vec![];
-    for x in f.section(8).chunks(4).filter(|x| x[2] == NONE) {
+    for x in f.section(Section::Transfers).chunks(4).filter(|x| x[2] == NONE) {
         pairs.push((x[0], x[1], f32::from_bits(x[3])))
     }
     for i in 0..s {
-        for x in f.under(10, 2, i).chunks(2) {
+        for x in f.under(Section::Walks, 2, i).chunks(2) {
             pairs.push((i as u32, x[0], f32::from_bits(x[1])))
         }
     }
     let lent = Lent::new(s, &pairs)?;
 
-    let transfer_starts = f.section(7);
+    let transfer_starts = f.section(Section::TransferStarts);
     let repository = Repository {
         stop_lookup: stops.iter().map(|x| (x.id.clone(), x.index)).collect(),
         area_lookup: areas.iter().map(|x| (x.id.clone(), x.index)).collect(),
@@ -124,17 +124,17 @@ pub fn build(words: &[u32]) -> Result<(Repository, Lent), String> {
         stop_distance_lookup: Default::default(), // no cells: coordinates are left to others
         routes: Default::default(),
         shapes: Default::default(),
-        route_to_trips: (0..r).map(|i| boxed(f.under(14, 1, i))).collect(),
+        route_to_trips: (0..r).map(|i| boxed(f.under(Section::RouteTrips, 1, i))).collect(),
         trip_to_route: trip_route.clone().into(),
-        area_to_stops: (0..a).map(|i| boxed(f.under(18, 1, i))).collect(),
+        area_to_stops: (0..a).map(|i| boxed(f.under(Section::AreaStops, 1, i))).collect(),
         stop_to_area: vec![None; s].into(),
-        station_to_stops: (0..s).map(|i| boxed(f.under(3, 1, i))).collect(),
+        station_to_stops: (0..s).map(|i| boxed(f.under(Section::Children, 1, i))).collect(),
         stop_to_transfers: (0..s).map(|i| (transfer_starts[i]..transfer_starts[i + 1]).collect()).collect(),
         stop_to_trips: stop_to_trips.into_iter().map(|v| v.into_boxed_slice()).collect(),
         trip_to_stop_times_slice: slices.into(),
         route_to_raptors: (0..r as u32).map(|i| boxed(&[i])).collect(),
-        stop_to_raptors: (0..s).map(|i| f.under(5, 3, i).chunks(3).map(|x| x[0]).collect()).collect(),
-        stop_to_walk_stop: (0..s).map(|i| f.under(10, 2, i).chunks(2).map(|x| x[0]).collect()).collect(),
+        stop_to_raptors: (0..s).map(|i| f.under(Section::Calls, 3, i).chunks(3).map(|x| x[0]).collect()).collect(),
+        stop_to_walk_stop: (0..s).map(|i| f.under(Section::Walks, 2, i).chunks(2).map(|x| x[0]).collect()).collect(),
         raptor_to_shapes_slice: vec![None; r].into(),
         stops: stops.into(),
         areas: areas.into(),

@@ -1,7 +1,7 @@
 //! oracle FILE|-: asks the source's search every query of the cases and prints one answer line for each; # lines are passed over.
 use oracle::{
+    flat::words,
     harness::{Query, Ready, prepare},
-    network::words,
 };
 use std::io::{BufRead, BufReader, BufWriter, Read, Write};
 

@@ -3,8 +3,8 @@
 //! Left out: queries outside demand 2 (an arrival search in which a span reaches its label), queries that stand twice, and most of
 //! the dull ones. A count of each goes to standard error.
 use oracle::{
+    flat::words,
     harness::{Query, Ready, prepare, reaching},
-    network::words,
 };
 use std::io::{BufRead, BufWriter, Write};
 

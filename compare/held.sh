@@ -1,0 +1,32 @@
+#!/bin/sh
+# The lists that are kept, held to what makes them: the networks and queries of oracle/cases.txt to the seeds that they are drawn from; the list that
+# the program `replay` is run on to them, and what it must print to plain C. The Rust is not asked: oracle/replay.sh does.
+set -eu
+cd "$(dirname "$0")/.."
+out=target/compare list=crates/replay
+mkdir -p $out
+compare/generate.sh 0 0                 # builds it
+for seed in $(sed -n 's/^# generated, seed //p' oracle/cases.txt); do
+    echo "# generated, seed $seed"
+    $out/generate "$seed" 500
+done > $out/generated
+awk '
+    /^#/ { seed = $0 }
+    /^net / { net = seed $0 }
+    !/^q / { next }
+    FILENAME ~ /generated$/ { made[net $0]; next }
+    seed ~ /generated/ { n++; if (!(net $0 in made)) { print "not made by its seed (" seed "): " $0; wrong = 1 } }
+    END { print n + 0 " queries of the kept list are asked in the networks that its seeds make"; exit wrong || n == 0 }
+' $out/generated oracle/cases.txt
+
+# its first part is written by hand; then come the worked examples in rescan mode, and the whole kept list
+{
+    sed '/^# the worked examples in the rescan mode$/q' $list/stdin
+    sed '/^# generated/,$d; /^#/d; s/^q .*/& r/' oracle/cases.txt
+    echo "# the Rust's kept answers"
+    cat oracle/cases.txt
+} | cmp - $list/stdin
+tail -n "$(wc -l < oracle/answers.txt)" $list/stdout | cmp - oracle/answers.txt
+cc -O2 -o $out/replay compare/replay.c compare/lines.c compare/face.c plain/search.c plain/check.c
+$out/replay $list/stdin | cmp - $list/stdout
+echo "$list: its list is made of the kept one, and plain C gives its $(wc -l < $list/stdout) lines"
