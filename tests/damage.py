@@ -1,117 +1,149 @@
 #!/usr/bin/env python3
-"""Damaged tables and the number that document 01's check gives them, by a second writing of the check in Python.
+"""Damaged tables and the number that document 01's check gives them, by a second writing of the check (tests/second_check.py).
 
   damage.py list              the short list that the gate replays: net lines to stdout, numbers to stderr
+  damage.py held              that crates/checktables/stdin and stdout are this list, byte for byte, and that crates/kiosk has N's words
   damage.py run COUNT SEED    COUNT damaged tables through the program, compared number by number
 
-MODEL names the folder of the Python model (shared/model beside the project where it is not set). The program is
-target/bin/checktables; PROGRAM may name another command that runs it.
+The program is target/bin/checktables; PROGRAM may name another command that runs it. The networks that are damaged are small nasty ones of this seed
+(compare/generate.sh).
 """
-import os, random, shlex, struct, subprocess, sys
+import os, random, re, shlex, struct, subprocess, sys
+
+sys.dont_write_bytecode = True  # no folder of compiled scripts in the tree
 here = os.path.dirname(os.path.abspath(__file__))
-sys.path.insert(0, os.environ.get("MODEL", os.path.join(here, "..", "..", "shared", "model")))
-from model.tables import Tables, check, MAX, NO_PARENT
-from model.vectors import build, network_n, network_m
-import gen
+root = os.path.join(here, "..")
+sys.path.insert(0, os.path.join(root, "tools"))
+from damaging import damaged
+from second_check import (AREA_STOPS, CALLS, CALL_STARTS, CHILDREN, MAX, ROUTE_STOPS, ROUTE_STOP_STARTS, ROUTE_TRIPS, ROUTE_TRIP_STARTS,
+                          SERVED, STATIONS, STOP_LIST, TIMES, TIME_STARTS, TRANSFERS, WALKS, number)
+from timetable import Timetable
 
-def bits(x):
-    return struct.unpack("<I", struct.pack("<f", x))[0]
+NETWORKS = 5000  # that are damaged in a run
 
-def changed(t, section, place, value):
-    w = t.flat()
+
+def bits(metres):
+    return struct.unpack("<I", struct.pack("<f", metres))[0]
+
+
+def build(stops, routes, transfers=(), walks=(), station=None, areas=()):
+    """The words of a network, by the writer that users have. It is filled here and not read, so a count may be over its limit.
+    routes: (stops, [trip rows]); trips are numbered as they come. transfers: from, to, span, metres; walks: from, to, metres."""
+    table = Timetable()
+    table.stops, table.parent, table.areas = stops, station or [MAX] * stops, areas
+    table.children = [[c for c in range(stops) if table.parent[c] == s] for s in range(stops)]
+    table.transfers = [[(to, span, bits(metres)) for at, to, span, metres in transfers if at == s] for s in range(stops)]
+    table.walks = [[(to, bits(metres)) for at, to, metres in walks if at == s] for s in range(stops)]
+    for along, rows in routes:
+        table.routes.append((along, list(range(len(table.times), len(table.times) + len(rows)))))
+        table.times += rows
+    return table.words()
+
+
+def changed(words, section, place, value):
+    w = list(words)
     w[w[section] + place] = value
     return w
 
+
 def listed():
     """(comment, words): N and M, and for each number damaged copies of N, among them each boundary."""
-    n = network_n()
-    walked = build(5, [([0, 1, 2], [[(100, 100), (200, 210), (300, 300)], [(400, 400), (500, 510), (600, 600)]]),
-                       ([3, 4], [[(350, 350), (450, 450)], [(650, 650), (750, 750)]])], [(2, 3, 30, 12.0)], [(3, 2, 12.0)],
-                   [NO_PARENT, NO_PARENT, NO_PARENT, 2, 2], [[2], [0, 2]])
+    calls = [(100, 100), (200, 210), (300, 300)]
+    later = [(400, 400), (500, 510), (600, 600)]
+    last = ([3, 4], [[(350, 350), (450, 450)], [(650, 650), (750, 750)]])
+    n = build(5, [([0, 1, 2], [calls, later]), last], [(2, 3, 30, 0.0)])
+    m = build(3, [([0, 1, 2], [[(100, 100), (300, 300), (400, 400)]]), ([0, 1], [[(150, 150), (200, 200)]])])
+    walked = build(5, [([0, 1, 2], [calls, later]), last], [(2, 3, 30, 12.0)], [(3, 2, 12.0)], [MAX, MAX, MAX, 2, 2], [[2], [0, 2]])
     one = build(2, [([0, 1], [[(1, 1), (1, 1_000_000)]])])
-    yield "N", n.flat()
-    yield "M", network_m().flat()
-    yield "N with a station, two areas and a walk", walked.flat()
-    yield "no stop at all", build(0, []).flat()
+    yield "N", n
+    yield "M", m
+    yield "N with a station, two areas and a walk", walked
+    yield "no stop at all", build(0, [])
     # 1
     yield "no word", []
-    yield "19 words", n.flat()[:19]
-    yield "a header that begins at 21", [21] + n.flat()[1:]
-    yield "one word more than the header says", n.flat() + [0]
-    yield "a section that falls", changed(n, 0, 3 - 20, 5)
-    yield "a starts section that begins with 1", changed(n, 4, 0, 1)
-    yield "a starts section that ends short", changed(n, 13, 2, 3)
-    yield "a starts section that falls", changed(n, 15, 1, 9)
-    yield "a route without a stop", changed(n, 11, 1, 0)
+    yield "19 words", n[:19]
+    yield "a header that begins at 21", [21] + n[1:]
+    yield "one word more than the header says", n + [0]
+    yield "a section that falls", changed(n, STOP_LIST, 3 - 20, 5)
+    yield "a starts section that begins with 1", changed(n, CALL_STARTS, 0, 1)
+    yield "a starts section that ends short", changed(n, ROUTE_TRIP_STARTS, 2, 3)
+    yield "a starts section that falls", changed(n, TIME_STARTS, 1, 9)
+    yield "a route without a stop", changed(n, ROUTE_STOP_STARTS, 1, 0)
     long = list(range(128))
-    yield "128 positions in a route", build(129, [(long, [[(5, 5)] * 128])]).flat()
-    yield "129 positions in a route", build(129, [(long + [128], [[(5, 5)] * 129])]).flat()
-    yield "1,024 routes", build(1, [([0], [])] * 1024).flat()
-    yield "1,025 routes", build(1, [([0], [])] * 1025).flat()
-    yield "1,024 areas", build(1, [], areas=[[]] * 1024).flat()
-    yield "1,025 areas", build(1, [], areas=[[]] * 1025).flat()
+    yield "128 positions in a route", build(129, [(long, [[(5, 5)] * 128])])
+    yield "129 positions in a route", build(129, [(long + [128], [[(5, 5)] * 129])])
+    yield "1,024 routes", build(1, [([0], [])] * 1024)
+    yield "1,025 routes", build(1, [([0], [])] * 1025)
+    yield "1,024 areas", build(1, [], areas=[[]] * 1024)
+    yield "1,025 areas", build(1, [], areas=[[]] * 1025)
     # 2
-    yield "the stop list out of place", changed(n, 0, 1, 2)
-    yield "a station out of range", changed(n, 1, 0, 5)
-    yield "a station that does not list its child", changed(walked, 1, 3, NO_PARENT)
-    yield "a child listed twice", changed(walked, 3, 1, 3)
-    yield "a stop of a route out of range", changed(n, 12, 2, 5)
-    yield "a trip in two routes", changed(n, 14, 2, 0)
-    yield "a trip out of range", changed(n, 14, 2, 4)
-    yield "a call that names another route", changed(n, 5, 0, 1)
-    yield "a call's first position", changed(n, 5, 4, 0)
-    yield "a call's last position", changed(n, 5, 5, 2)
-    yield "a served mark left unset", changed(n, 6, 0, 0)
-    yield "a served mark of 2", changed(n, 6, 0, 2)
-    yield "a transfer under another stop", changed(n, 8, 0, 1)
-    yield "a transfer to nowhere", changed(n, 8, 1, 5)
-    yield "a walk to nowhere", changed(walked, 10, 0, 5)
-    yield "an area that names a stop twice", changed(walked, 18, 1, 2)
-    yield "an area that names no stop there is", changed(walked, 18, 0, 5)
+    yield "the stop list out of place", changed(n, STOP_LIST, 1, 2)
+    yield "a station out of range", changed(n, STATIONS, 0, 5)
+    yield "a station that does not list its child", changed(walked, STATIONS, 3, MAX)
+    yield "a child listed twice", changed(walked, CHILDREN, 1, 3)
+    yield "a stop of a route out of range", changed(n, ROUTE_STOPS, 2, 5)
+    yield "a trip in two routes", changed(n, ROUTE_TRIPS, 2, 0)
+    yield "a trip out of range", changed(n, ROUTE_TRIPS, 2, 4)
+    yield "a call that names another route", changed(n, CALLS, 0, 1)
+    yield "a call's first position", changed(n, CALLS, 4, 0)
+    yield "a call's last position", changed(n, CALLS, 5, 2)
+    yield "a served mark left unset", changed(n, SERVED, 0, 0)
+    yield "a served mark of 2", changed(n, SERVED, 0, 2)
+    yield "a transfer under another stop", changed(n, TRANSFERS, 0, 1)
+    yield "a transfer to nowhere", changed(n, TRANSFERS, 1, 5)
+    yield "a walk to nowhere", changed(walked, WALKS, 0, 5)
+    yield "an area that names a stop twice", changed(walked, AREA_STOPS, 1, 2)
+    yield "an area that names no stop there is", changed(walked, AREA_STOPS, 0, 5)
     # 3
-    yield "a moment of 1 and one of 1,000,000", one.flat()
-    yield "a moment of 0", changed(one, 16, 0, 0)
-    yield "a moment of 1,000,001", changed(one, 16, 3, 1_000_001)
-    yield "an arrival after its departure", changed(n, 16, 2, 211)
-    yield "a departure after the next arrival", changed(n, 16, 3, 301)
-    yield "a departure at the next arrival", changed(n, 16, 3, 300)
-    yield "N with a first moment of 0", changed(n, 16, 0, 0)
-    yield "N with a last moment of 1,000,001", changed(n, 16, 19, 1_000_001)
+    yield "a moment of 1 and one of 1,000,000", one
+    yield "a moment of 0", changed(one, TIMES, 0, 0)
+    yield "a moment of 1,000,001", changed(one, TIMES, 3, 1_000_001)
+    yield "an arrival after its departure", changed(n, TIMES, 2, 211)
+    yield "a departure after the next arrival", changed(n, TIMES, 3, 301)
+    yield "a departure at the next arrival", changed(n, TIMES, 3, 300)
+    yield "N with a first moment of 0", changed(n, TIMES, 0, 0)
+    yield "N with a last moment of 1,000,001", changed(n, TIMES, 19, 1_000_001)
     # 4
     two = build(2, [([0, 1], [[(10, 20), (30, 40)], [(10, 20), (30, 40)]])])
-    yield "two trips at the same moments", two.flat()
-    yield "arrivals out of order by one second", changed(two, 16, 4, 9)
-    yield "departures out of order by one second", changed(two, 16, 5, 19)
-    yield "arrivals out of order at the last position", changed(two, 16, 6, 29)
-    calls = [(100, 100), (200, 210), (300, 300)]
-    same = build(5, [([0, 1, 2], [calls, calls]), ([3, 4], [[(350, 350), (450, 450)], [(650, 650), (750, 750)]])], [(2, 3, 30)])
-    yield "N with trip 1 at trip 0's moments", same.flat()
-    yield "and an arrival one second sooner", changed(same, 16, 8, 199)
-    yield "and a departure one second sooner", changed(same, 16, 9, 209)
-    yield "and the last arrival one second sooner", changed(same, 16, 10, 299)
+    yield "two trips at the same moments", two
+    yield "arrivals out of order by one second", changed(two, TIMES, 4, 9)
+    yield "departures out of order by one second", changed(two, TIMES, 5, 19)
+    yield "arrivals out of order at the last position", changed(two, TIMES, 6, 29)
+    same = build(5, [([0, 1, 2], [calls, calls]), last], [(2, 3, 30, 0.0)])
+    yield "N with trip 1 at trip 0's moments", same
+    yield "and an arrival one second sooner", changed(same, TIMES, 8, 199)
+    yield "and a departure one second sooner", changed(same, TIMES, 9, 209)
+    yield "and the last arrival one second sooner", changed(same, TIMES, 10, 299)
     # 5
     for what, value in (("NaN", 0x7FC00000), ("-0.0", 0x80000000), ("100,000", bits(100_000.0)),
                         ("the next float above 100,000", bits(100_000.0) + 1), ("-1", bits(-1.0)), ("infinity", 0x7F800000)):
-        yield "a distance of " + what + " beside a stated span", changed(walked, 8, 3, value)
-        yield "a walk of " + what, changed(walked, 10, 1, value)
+        yield "a distance of " + what + " beside a stated span", changed(walked, TRANSFERS, 3, value)
+        yield "a walk of " + what, changed(walked, WALKS, 1, value)
     for what, value in (("86,400", 86_400), ("86,401", 86_401), ("MAX", MAX), ("MAX - 1", MAX - 1), ("0", 0)):
-        yield "a span of " + what, changed(n, 8, 2, value)
-    yield "N with a distance of NaN", changed(n, 8, 3, 0x7FC00000)
+        yield "a span of " + what, changed(n, TRANSFERS, 2, value)
+    yield "N with a distance of NaN", changed(n, TRANSFERS, 3, 0x7FC00000)
 
-def damaged(rng):
-    """A random network, with some of its words, or its length, changed."""
-    w = gen.network(rng).flat()
-    kind = rng.random()
-    if kind < 0.05:
-        return w
-    if kind < 0.10:
-        return w[:rng.randrange(len(w) + 1)] + [rng.randrange(30) for _ in range(rng.randrange(3))]
-    for _ in range(rng.choice((1, 1, 1, 2, 3))):
-        k = rng.randrange(20) if rng.random() < 0.1 else rng.randrange(20, len(w)) if len(w) > 20 else 0
-        near = rng.choice((w[k] + 1, w[k] - 1, rng.randrange(12), w[rng.randrange(len(w))], 0, MAX, 1_000_001, 86_401, 0x7FC00000,
-                           bits(100_000.0) + 1, rng.randrange(2 ** 32)))
-        w[k] = near % 2 ** 32
-    return w
+
+def net(words):
+    return " ".join(["net", *map(str, words)]) + "\n"
+
+
+def the_list():
+    """The list as the program reads it, and the numbers as it writes them."""
+    some = list(listed())
+    return "".join(f"# {what}\n{net(w)}" for what, w in some), "".join(f"{number(w)}\n" for _, w in some)
+
+
+def held():
+    for name, made in zip(("stdin", "stdout"), the_list()):
+        with open(os.path.join(root, "crates/checktables", name)) as kept:
+            if kept.read() != made:
+                sys.exit(f"crates/checktables/{name} is not what tests/damage.py makes")
+    with open(os.path.join(root, "crates/kiosk/src/network.rt")) as source:
+        if [int(x) for x in re.findall(r"\b[0-9]+\b", source.read().split("= [")[1])] != dict(listed())["N"]:
+            sys.exit("crates/kiosk/src/network.rt does not hold N's words")
+    print("crates/checktables: its list is as tests/damage.py makes it,", sum(1 for _ in listed()), "tables with their numbers")
+
 
 def program():
     if "PROGRAM" in os.environ:
@@ -119,34 +151,43 @@ def program():
     guide = subprocess.run(["rt", "doc"], stdout=subprocess.PIPE, check=True).stdout.decode().strip()
     home = os.path.dirname(os.path.dirname(guide))
     kit = os.path.join(home, "on", os.uname().machine, "toolchain")
-    run = [os.path.join(kit, "lib/ld-linux-x86-64.so.2"), "--library-path", os.path.join(kit, "lib"),
-           os.path.join(here, "..", "target", "bin", "checktables")]
+    run = [os.path.join(kit, "lib/ld-linux-x86-64.so.2"), "--library-path", os.path.join(kit, "lib"), os.path.join(root, "target/bin/checktables")]
     emulator = os.path.join(kit, "bin/qemu-x86_64")
     return ([emulator] if os.path.exists(emulator) else []) + run
 
-def main():
-    if sys.argv[1:2] == ["list"]:
-        for what, w in listed():
-            print("#", what)
-            print(" ".join(["net"] + [str(x) for x in w]))
-            print(check(w), file=sys.stderr)
-        return
-    count, seed = int(sys.argv[2]), int(sys.argv[3])
+
+def run(count, seed):
+    made = subprocess.run([os.path.join(root, "compare/generate.sh"), str(seed), str(NETWORKS)], stdout=subprocess.PIPE, check=True).stdout.decode()
+    networks = [[int(x) for x in line.split()[1:]] for line in made.splitlines() if line.startswith("net ")]
     rng, differ, by, done = random.Random(seed), 0, [0] * 6, 0
     while done < count:
-        some = [damaged(rng) for _ in range(min(2000, count - done))]
-        want = [check(w) for w in some]
-        text = "".join(" ".join(["net"] + [str(x) for x in w]) + "\n" for w in some)
-        got = subprocess.run(program(), input=text.encode(), stdout=subprocess.PIPE, check=True).stdout.split()
-        for w, a, b in zip(some, want, [int(x) for x in got]):
+        some = [damaged(rng, rng.choice(networks)) for _ in range(min(2000, count - done))]
+        got = subprocess.run(program(), input="".join(map(net, some)).encode(), stdout=subprocess.PIPE, check=True).stdout.split()
+        if len(got) != len(some):
+            sys.exit("as many answers as tables were wanted")
+        for w, b in zip(some, map(int, got)):
+            a = number(w)
             by[a] += 1
             if a != b:
                 differ += 1
                 print("want", a, "got", b, w)
-        if len(got) != len(some):
-            sys.exit("as many answers as tables were wanted")
         done += len(some)
     print(done, "tables,", differ, "differ; by number 0 to 5:", *by)
     sys.exit(differ > 0)
+
+
+def main():
+    words = sys.argv[1:]
+    if words == ["list"]:
+        lines, numbers = the_list()
+        print(lines, end="")
+        print(numbers, end="", file=sys.stderr)
+    elif words == ["held"]:
+        held()
+    elif len(words) == 3 and words[0] == "run":
+        run(int(words[1]), int(words[2]))
+    else:
+        sys.exit(__doc__)
+
 
 main()

@@ -5,6 +5,9 @@ Of document 01's numbers 1 to 5 the lowest that applies is given, and 0 where no
 import struct
 
 MAX = 4294967295
+# the sections by their numbers
+(STOP_LIST, STATIONS, CHILD_STARTS, CHILDREN, CALL_STARTS, CALLS, SERVED, TRANSFER_STARTS, TRANSFERS, WALK_STARTS, WALKS, ROUTE_STOP_STARTS, ROUTE_STOPS,
+ ROUTE_TRIP_STARTS, ROUTE_TRIPS, TIME_STARTS, TIMES, AREA_STARTS, AREA_STOPS) = range(19)
 
 
 def number(w):

@@ -22,7 +22,8 @@ import fault
 import manners
 import timetable
 from refusals import ASKED, JOURNEYS, LIMITS, N1, N1_LATER, TABLES, TIMETABLES
-from second_check import MAX, number
+from damaging import damaged
+from second_check import number
 
 TOOLS = {"timetable": timetable, "drawing": drawing, "fault": fault}
 room = tempfile.TemporaryDirectory()
@@ -232,48 +233,6 @@ def spoil(rng, count):
         status, out, err = ran("drawing", ["examples/N.txt"], text)
         expect((status == 0) == (err == "") and (status > 0) == (out == ""), repr(text), "gave", status, err)
     return accepted
-
-
-def resized(rng, w):
-    """Tables with one row of a list said twice, or left out; all else fits."""
-    k, wide = rng.choice(((2, 1), (4, 3), (7, 4), (9, 2), (11, 1), (13, 1), (15, 2), (17, 1)))
-    part = [w[w[j]:w[j + 1]] for j in range(19)]
-    entries = [i for i in range(len(part[k]) - 1) if part[k][i] < part[k][i + 1]]
-    if not entries:
-        return w
-    i = rng.choice(entries)
-    row = rng.randrange(part[k][i], part[k][i + 1]) * wide
-    more = rng.choice((1, -1))
-    part[k + 1][row:row + wide] = part[k + 1][row:row + wide] * (1 + more)
-    part[k] = part[k][:i + 1] + [at + more for at in part[k][i + 1:]]
-    header = [20]
-    for section in part:
-        header.append(header[-1] + len(section))
-    return header + [x for section in part for x in section]
-
-
-def damaged(rng, w):
-    """Tables with some of their words, or their length, changed."""
-    w = list(w)
-    if rng.random() < 0.15:
-        return resized(rng, w)
-    if rng.random() < 0.08:
-        return w[:rng.randrange(len(w) + 1)] + [rng.randrange(30) for _ in range(rng.randrange(3))]
-    calls = [at for at in range(w[5], w[6], 3) if w[at + 1] != w[at + 2]]
-    if rng.random() < 0.1 and calls:                    # a stop that a route visits twice, with one of its positions unsaid
-        k = rng.choice(calls)
-        w[k + 1], w[k + 2] = rng.choice(((w[k + 1], w[k + 1]), (w[k + 2], w[k + 2])))
-        return w
-    if rng.random() < 0.1 and w[15] - w[14] > 1:        # trips that change places: within a route they may be out of order
-        k = rng.randrange(w[14], w[15] - 1)
-        w[k], w[k + 1] = w[k + 1], w[k]
-        return w
-    for _ in range(rng.choice((1, 1, 1, 2, 3))):
-        low, high = rng.choice(((20, len(w)), (20, len(w)), (20, len(w)), (0, 20), (w[16], w[17]), (w[16], w[17]), (w[8], w[9]), (w[10], w[11])))
-        k = rng.randrange(low, high) if 0 <= low < high <= len(w) else 19
-        w[k] = rng.choice((w[k] + 1, w[k] - 1, rng.randrange(12), w[rng.randrange(len(w))], 0, MAX, 1_000_001, 86_401, 0x7FC00000, 0x47C35001,
-                           rng.randrange(2 ** 32))) % 2 ** 32
-    return w
 
 
 def same_number(w, want):
