@@ -3,8 +3,8 @@
 # This holds each part refused by itself, as if it stood alone. A part changes bodies of functions, contracts or definitions. In what the prover said of
 # the file (target/must-fail, after `rt ci`) there must be a refusal, in the proof of a function or in a module of laws, that speaks of what this part
 # changes and of nothing that another part changes (tests/speaks.py), so it would be there without the others. A caller speaks of its callee's contract
-# and never of its body. A refusal that only says that something else was not admitted comes from there, and one that misses a need by its name comes
-# from the code's shape: neither counts. Where something is refused that speaks of no part, nothing is concluded.
+# and never of its body. A refusal that only says that something else was not admitted comes from there, and one that misses a module or a
+# need by its name from there too or from the code's shape: neither counts. Where something is refused that speaks of no part, nothing is concluded.
 #   edits.py         after `rt ci`: every part
 #   edits.py before  before it: whether each part can have a refusal of its own; and the script itself is tried on a kept case (tests/edits), where a part
 #                    that is no fault must be seen, and one that hides behind another
@@ -23,9 +23,9 @@ def refused(crate, said):
     own = set()
     for line in said.split("\n"):
         error = re.match(r"(?:\S*/)?(proofs/\S+\.antt):\d+:\d+: error: (.*)", line)
-        if error and "was not admitted (" not in error.group(2) and " has no `Need-" not in error.group(2):
+        if error and "was not admitted (" not in error.group(2) and " has no `" not in error.group(2):
             own.add(crate.node(error.group(1)))
-        none = re.match(r"fn \w+?::(\S+): no proof: expected ", line)
+        none = re.match(r"fn \w+?::(\S+): no proof: expected .*; `search` does not close ", line)
         if none:
             own.add(f"fn:{none.group(1)}")
     return own
@@ -59,6 +59,8 @@ def wrong_of(crate, edit, said):
 def tried():
     """The kept case, a crate, edits with parts, and what the prover said of the second of them once: what is seen in each."""
     crate, said, got = Crate(f"{CASE}/crate", "shared"), read(f"{CASE}/said"), []
+    for line in read(f"{CASE}/lines").split("\n")[:-1]:  # other things that it says: whether each is a refusal of its own
+        got.append(f"{'own' if refused(crate, line) else 'not its own'}: {line}")
     for edit in sorted(glob.glob(f"{CASE}/*.parts")):
         wrong, _ = wrong_of(crate, read(edit), said)
         got += [f"{os.path.basename(edit)[:-6]}: {w}" for w in wrong or ["nothing is wrong"]]

@@ -28,12 +28,15 @@ class Crate:
         self.says = {}
         for file in [f for f in self.texts if f.endswith(".antt")]:
             self.says.setdefault(self.node(file), set()).update(self.named(self.texts[file]) - {self.node(file)})
+        outside = set()  # what stands in no function, as a type does, is spoken of by all
+        for file in [f for f in self.texts if f.endswith(".rt")]:
+            for a, b in self.between(file):
+                outside |= self.spoken(self.texts[file], self.texts[file][a:b])
         for name, f in self.functions.items():
             text = self.texts[f.file]
-            outside = "".join(text[a:b] for a, b in self.between(f.file))
             self.says[f"head:{name}"], self.says[f"body:{name}"] = self.spoken(text, f.head), self.spoken(text, f.body)
             called = {f"head:{other}" for other, g in self.functions.items() if other != name and re.search(rf"\b{g.name}\b", f.body)}
-            self.says.setdefault(f"fn:{name}", set()).update({f"head:{name}", f"body:{name}"} | called | self.spoken(text, outside))
+            self.says.setdefault(f"fn:{name}", set()).update({f"head:{name}", f"body:{name}"} | called | outside)
 
     def between(self, file):
         """The stretches of a source file that are no function."""
@@ -62,7 +65,7 @@ class Crate:
 
     def spoken(self, source, text):
         """The nodes that a part of a source file names, by itself or by what the file imports under a name that stands in it."""
-        text = re.sub(r"^(?:ghost )?use .*$", "", text, flags=re.M)
+        text = re.sub(r"^(?:ghost )?use [^;]*;|(?:^|(?<=\s))//.*$", "", text, flags=re.M)
         found = self.named(text)
         for m in re.finditer(r"^ghost use ([^;{]+?)(?:\.\{([^}]*)\}| as (\w+))?;", source, re.M):
             names = (m.group(2) or m.group(3) or m.group(1).split(".")[-1]).split(",")
