@@ -14,6 +14,7 @@ ghost use Rattle.allocator.specs.Operations.{applied};
 ghost use Rattle.explorer_rides.specs.Riding.{Seat, caught, rideLeg, OnRoute, Riding, reachIn, leaveIn};
 use super::Call;
 use super::Ride;
+use allocator::Offer;
 use discovery::Trip;
 use explorer::Round;
 use model::Direction;
@@ -143,15 +144,10 @@ pub fn propose(
     let t = reaches_at(tables, round, ride.row, here.position);
     let g = leg_from(tables, stops, round, here, t, ride);
     let d = round.direction;
-    allocator::apply(
-        words,
-        marks,
-        round.stops,
-        round.routes,
-        d,
-        round.number,
-        here.stop,
-        t,
-        g,
-    );
+    let o = Offer {
+        stop: here.stop,
+        moment: t,
+        leg: g,
+    };
+    allocator::apply(words, marks, round.stops, round.routes, d, round.number, o);
 }
