@@ -1,6 +1,6 @@
 -- The numbers that a test takes from a range, ascending: which is the first, and where there is none.
 -- Assumes nothing.
-use mathlib.Core.Path.{_≡_, sym, ap, ap₂, _∙_}
+use mathlib.Core.Path.{_≡_, sym, ap, _∙_}
 use mathlib.Core.Bool.{Bool, true, false}
 use mathlib.Core.List.{List, [], _∷_}
 use Prim.Native.Nat.{ℕ, zero, suc, _+_, _-_, _≤_, _<_}
@@ -75,18 +75,3 @@ module _ (f : ℕ → Bool) where
 
     pub first-at : (s : ℕ) → from ≤ s → s < limit → Clear f from s → f s ≡ true → At s ≡ firstOf (chosen f from limit)
     first-at s g h c e = sym (ap firstOf (chosen-first s g h c e))
-
--- ---- two tests that agree in a range take the same there
-pub chosen-same : (f g : ℕ → Bool) (n a b : ℕ) → b ≤ a + n → ((t : ℕ) → a ≤ t → t < b → f t ≡ g t)
-    → chosen f a b ≡ chosen g a b
-chosen-same f g zero a b h e = chosen-end f a b (omega arith) ∙ sym (chosen-end g a b (omega arith))
-chosen-same f g (suc n) a b h e =
-    split (ltb a b)
-    (λ l.
-    let l′ = ltb-true a b l in
-    let rest : chosen f (a + 1) b ≡ chosen g (a + 1) b =
-    chosen-same f g n (a + 1) b (omega arith) (λ t p q. e t (omega arith) q) in
-    chosen-step f a b l′
-    ∙ ap₂ (λ (x : Bool) (l : List ℕ). keep x a l) (e a (omega arith) l′) rest
-    ∙ sym (chosen-step g a b l′))
-    (λ l. chosen-end f a b (ltb-false a b l) ∙ sym (chosen-end g a b (ltb-false a b l)))
