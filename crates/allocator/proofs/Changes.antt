@@ -4,7 +4,8 @@ use mathlib.Core.Path.{_≡_}
 use mathlib.Core.List.{List}
 use Prim.Native.Nat.{ℕ, _+_, _*_}
 use native.Mathlib.Omega.{arith}
-use Rattle.allocator.specs.Layout.{pages, Words, Marks, prevOf, currOf, bestOf, heldOf, activeOf, parentsOf, markOf, heldMarkOf, maskOf, view}
+use Rattle.allocator.specs.Layout.{pages, Words, Marks, prevOf, currOf, bestOf, heldOf, activeOf, parentsOf, markOf}
+use Rattle.allocator.specs.Layout.{heldMarkOf, maskOf, view}
 use Rattle.allocator.specs.Parts.{withPrev, withCurr, withBest, withMarks, withHeld, withHeldMark, withActive, withMask, withParents}
 use Rattle.allocator.proofs.Sections.{Only, sect-before, sect-behind}
 

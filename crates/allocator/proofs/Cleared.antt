@@ -11,7 +11,8 @@ use Rattle.model.specs.declared.Direction.{Direction}
 use Rattle.model.specs.Moments.{MAX}
 use Rattle.allocator.specs.Sections.{sect, overlaid}
 use Rattle.allocator.specs.Rows.{encoded, decoded, rowOf, parentIn, parents}
-use Rattle.allocator.specs.Layout.{pages, Sized, prevOf, currOf, bestOf, heldOf, activeOf, parentsOf, markOf, heldMarkOf, maskOf, view}
+use Rattle.allocator.specs.Layout.{pages, Sized, prevOf, currOf, bestOf, heldOf, activeOf, parentsOf, markOf, heldMarkOf}
+use Rattle.allocator.specs.Layout.{maskOf, view}
 use Rattle.allocator.specs.Tidy.{Rows, Tidy}
 use Rattle.allocator.specs.Operations.{blank, cleared}
 use Rattle.allocator.proofs.Sections.{Only, only-whole, put-sect, sect-whole-put, sect-replicate, sect-before}

@@ -20,7 +20,8 @@ use Rattle.allocator.specs.Rows.{legRow}
 use Rattle.allocator.specs.Layout.{pages, Sized, currOf, bestOf, activeOf, view}
 use Rattle.allocator.specs.Does.{Usable, Does}
 use Rattle.allocator.specs.Parts.{withCurr, withBest, withMarks, withHeld, withActive, withMask, withParents}
-use Rattle.allocator.specs.Operations.{blank, started, swapped, unmasked, refreshed, chosenOf, withChosen, activated, unmarked, holding, stored, applied}
+use Rattle.allocator.specs.Operations.{blank, started, swapped, unmasked, refreshed, chosenOf, withChosen, activated}
+use Rattle.allocator.specs.Operations.{unmarked, holding, stored, applied}
 use Rattle.allocator.proofs.Sections.{sect-length}
 use Rattle.allocator.proofs.Read.{row-in}
 use Rattle.allocator.proofs.Became.{Became, does-then}

@@ -19,7 +19,8 @@ use Rattle.marks.specs.Marks.{marked}
 use Rattle.model.specs.Work.{Work}
 use Rattle.allocator.specs.Sections.{sect}
 use Rattle.allocator.specs.Rows.{encoded, rowOf, parentIn, parents}
-use Rattle.allocator.specs.Layout.{pages, Sized, flags, prevOf, currOf, bestOf, heldOf, activeOf, parentsOf, markOf, heldMarkOf, maskOf, view}
+use Rattle.allocator.specs.Layout.{pages, Sized, flags, prevOf, currOf, bestOf, heldOf, activeOf, parentsOf, markOf}
+use Rattle.allocator.specs.Layout.{heldMarkOf, maskOf, view}
 use Rattle.allocator.specs.Tidy.{Rows, Spare, Tidy}
 use Rattle.allocator.proofs.Sections.{sect-get, sect-length}
 use Rattle.allocator.proofs.Tabulated.{tab-each}

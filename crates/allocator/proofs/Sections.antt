@@ -5,8 +5,10 @@ use mathlib.Core.List.{List, [], _∷_, _++_, append-assoc}
 use Prim.Native.Nat.{ℕ, suc, _+_, _-_, _≤_, _<_}
 use native.Mathlib.Nat.{zero-add, add-zero, add-assoc}
 use native.Mathlib.Omega.{arith}
-use lib.ListN.{length, getD, set, take, drop, replicate, length-append, length-take, length-drop, length-set, length-replicate, getD-replicate, List·getD-append}
-use lib.Seq.{length-take-le, getD-take, getD-drop, getD-append-add, getD-set-other, drop-set-add, take-set-lt, ext-getD, drop-cons, append-snoc, set-at}
+use lib.ListN.{length, getD, set, take, drop, replicate, length-append, length-take, length-drop, length-set, length-replicate}
+use lib.ListN.{getD-replicate, List·getD-append}
+use lib.Seq.{length-take-le, getD-take, getD-drop, getD-append-add, getD-set-other, drop-set-add, take-set-lt, ext-getD}
+use lib.Seq.{drop-cons, append-snoc, set-at}
 use Rattle.allocator.specs.Sections.{sect, overlaid}
 
 -- ---- reading

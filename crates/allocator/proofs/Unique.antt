@@ -1,5 +1,5 @@
--- Two results of one operation on the workspace are equal, word for word: what its contract says of the state, with `Tidy` and the length that a
--- lent slice keeps, leaves one workspace. One law for all of them: the state x is what the operation's contract names.
+-- Two results of one operation on the workspace are equal, word for word: what `Does` says leaves one workspace, and so do a state that is
+-- named, `Tidy` and the length that a lent slice keeps. One law for all operations: f is what the operation's contract names.
 -- Assumes nothing.
 use mathlib.Core.Path.{_≡_, sym, _∙_}
 use mathlib.Core.List.{List}
@@ -8,6 +8,7 @@ use lib.ListN.{length}
 use Rattle.model.specs.Work.{Work}
 use Rattle.allocator.specs.Layout.{Sized, view}
 use Rattle.allocator.specs.Tidy.{Tidy}
+use Rattle.allocator.specs.Does.{Does}
 use Rattle.allocator.specs.Operations.{unmarked}
 use Rattle.allocator.proofs.Became.{words-sized, marks-sized}
 use Rattle.allocator.proofs.Same.{same-words}
@@ -27,7 +28,12 @@ module _ {s r : ℕ} {w m : List ℕ} (z : Sized s r w m) where
   leaves-unique {x} {v} {n} {v′} {n′} a b =
       same-words s r v n v′ n′ (leaves-sized a) (leaves-sized b) (a .tidy) (b .tidy) (a .is ∙ sym (b .is))
 
+pub does-unique : {s r : ℕ} (f : Work → Work) {w m v n v′ n′ : List ℕ} → Does s r f w m v n → Does s r f w m v′ n′
+    → (v ≡ v′) × (n ≡ n′)
+does-unique {s} {r} f {w} {m} {v} {n} {v′} {n′} a b =
+    same-words s r v n v′ n′ (a .usable .sized) (b .usable .sized) (a .usable .tidy) (b .usable .tidy) (a .holds ∙ sym (b .holds))
+
 -- so no second result of `clear_marks`: a mark beyond the last stop cannot stay
-pub clear-marks-unique : {s r : ℕ} {w m v n v′ n′ : List ℕ} → Sized s r w m
-    → Leaves s r w m (unmarked s (view s r w m)) v n → Leaves s r w m (unmarked s (view s r w m)) v′ n′ → (v ≡ v′) × (n ≡ n′)
-clear-marks-unique z a b = leaves-unique z a b
+pub clear-marks-unique : {s r : ℕ} {w m v n v′ n′ : List ℕ} → Does s r (unmarked s) w m v n → Does s r (unmarked s) w m v′ n′
+    → (v ≡ v′) × (n ≡ n′)
+clear-marks-unique {s} a b = does-unique (unmarked s) a b

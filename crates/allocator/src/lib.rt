@@ -15,9 +15,11 @@ ghost use Rattle.model.specs.Legs.{legOf};
 ghost use Rattle.model.specs.Moments.{better, ahead};
 ghost use Rattle.allocator.specs.Sections.{sect, overlaid};
 ghost use Rattle.allocator.specs.Rows.{rowKind, rowTrip, legRow, rowLeg, decoded, parentOf};
-ghost use Rattle.allocator.specs.Layout.{pages, wordsRoom, marksRoom, Words, Marks, Sized, prevOf, currOf, bestOf, heldOf, activeOf, parentsOf, markOf, heldMarkOf, maskOf};
+ghost use Rattle.allocator.specs.Layout.{pages, wordsRoom, marksRoom, Words, Marks, Sized, prevOf, currOf, bestOf, heldOf};
+ghost use Rattle.allocator.specs.Layout.{activeOf, parentsOf, markOf, heldMarkOf, maskOf};
 ghost use Rattle.allocator.specs.Does.{Usable, Does};
-ghost use Rattle.allocator.specs.Operations.{blank, cleared, started, swapped, unmasked, refreshed, activated, unmarked, holding, stored, applied};
+ghost use Rattle.allocator.specs.Operations.{blank, cleared, started, swapped, unmasked, refreshed, activated, unmarked};
+ghost use Rattle.allocator.specs.Operations.{holding, stored, applied};
 ghost use Rattle.allocator.specs.Marked.{after};
 use marks::Next;
 use model::Direction;
@@ -334,7 +336,7 @@ pub fn any_marked(marks: &[u64], n: u32, m: u32) -> bool
 }
 
 // ---- at the start of a query. `clear` takes any workspace of the right lengths; every other operation takes one that
-// is tidy and leaves it so, and then the state that it leaves is all that there is to say (`leaves-unique`).
+// is tidy and leaves it so, and then the state that it leaves is all that there is to say (`does-unique`).
 
 // Every search begins with a new workspace, whatever was in it: no label, no mark, no parent.
 pub fn clear(words: &mut [u32], marks: &mut [u64], n: u32, m: u32, d: Direction)

@@ -22,7 +22,8 @@ use Rattle.model.specs.Applying.{wins, store, apply1, applyAll, keepAll}
 use Rattle.model.specs.Legs.{legOf, propose}
 use Rattle.model.specs.Rides.{reach, leave, board, alight, scan, course, rides}
 use Rattle.model.specs.Footpaths.{walked, paths, footpaths}
-use Rattle.model.specs.Round.{listed, picks, opened, rideHalf, footHalf, ridden, footed, aimed, roundTimes, riddenParents, roundParents, round}
+use Rattle.model.specs.Round.{listed, picks, opened, rideHalf, footHalf, ridden, footed, aimed, roundTimes, riddenParents}
+use Rattle.model.specs.Round.{roundParents, round}
 use Rattle.model.specs.Work.{Work, workOf}
 use Rattle.model.proofs.Better.{Improves, better-than, beaten}
 use Rattle.model.proofs.Applied.{apply1-on, apply1-off}
@@ -30,7 +31,8 @@ use Rattle.model.proofs.Choosing.{getD-set-or}
 use Rattle.allocator.specs.Operations.{applied, holding}
 use Rattle.allocator.specs.Parts.{withHeld, withHeldMark}
 use Rattle.explorer.specs.Applied.{with, openedWork}
-use Rattle.explorer.specs.Fused.{offered, alightWork, scanWork, routeWork, routesWork, ridesWork, footWork, pathsWork, stopWork, stopsWork, feetWork}
+use Rattle.explorer.specs.Fused.{offered, alightWork, scanWork, routeWork, routesWork, ridesWork, footWork, pathsWork}
+use Rattle.explorer.specs.Fused.{stopWork, stopsWork, feetWork}
 
 -- lists of proposals joined
 applyAll-join : (d : Direction) (ps qs : List Proposal) (l : Labels) → applyAll d (ps ++ qs) l ≡ applyAll d qs (applyAll d ps l)

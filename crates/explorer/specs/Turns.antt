@@ -1,7 +1,7 @@
 -- Entries of a list taken in turn, and what holds at each turn of such a loop: the entries that are left lead where all
 -- of them lead.
 -- Assumes nothing.
-use mathlib.Core.Path.{_≡_, refl, sym, ap, _∙_}
+use mathlib.Core.Path.{_≡_}
 use mathlib.Core.List.{List, [], _∷_}
 
 unfoldable pub inTurn : {A X : Type 0} → (A → X → X) → List A → X → X
