@@ -2,3 +2,4 @@
 pub mod Fused
 pub mod Turns
 pub mod Marked
+pub mod Visited

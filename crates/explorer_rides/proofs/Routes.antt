@@ -11,7 +11,7 @@ use Rattle.marks.specs.declared.Next.the-variants.{At, Nothing}
 use Rattle.model.specs.declared.Aboard.the-variants.{Off}
 use Rattle.model.specs.declared.Direction.the-variants.{Arrival}
 use Rattle.model.specs.Rides.{course}
-use Rattle.model.proofs.Choosing.{Placed}
+use Rattle.model.specs.Choosing.{Placed}
 use Rattle.repository.specs.NetOf.{netOf}
 use Rattle.allocator.specs.Sections.{sect}
 use Rattle.allocator.specs.Layout.{pages, flags, activeOf, maskOf, view}
@@ -22,6 +22,7 @@ use Rattle.allocator.proofs.Visited.{after-start, after-from, after-below, afte
 use Rattle.explorer.specs.declared.Round.{Round}
 use Rattle.explorer.specs.Fixed.{InRound}
 use Rattle.explorer.specs.Fused.{scanWork, routeWork, routesWork, ridesWork}
+use Rattle.explorer.proofs.Visited.{visited}
 use Rattle.explorer_rides.specs.Riding.{Riding}
 use Rattle.explorer_rides.proofs.Unchanged.{route-mask, route-active}
 
@@ -69,12 +70,13 @@ module _ (w : List ℕ) (o : Round) (ws₀ ms₀ : List ℕ) where
         (view (o .stops) (o .routes) ws ms)
         ≡ ridesWork (o .direction) (netOf w) (o .number) (o .target .0) (view (o .stops) (o .routes) ws₀ ms₀)
     pub active : activeOf (o .stops) (o .routes) ws ≡ activeOf (o .stops) (o .routes) ws₀
+    pub mask : maskOf (o .stops) (o .routes) ms ≡ maskOf (o .stops) (o .routes) ms₀
     pub usable : Usable (o .stops) (o .routes) ws ms
 
 module _ {w : List ℕ} {o : Round} {ws₀ ms₀ : List ℕ} where
   pub exploring-start : Usable (o .stops) (o .routes) ws₀ ms₀ → Exploring w o ws₀ ms₀ ws₀ ms₀ 0
   unfolding ridesWork view
-  exploring-start u = record { rest = rw (after-start (maskOf (o .stops) (o .routes) ms₀)); active = refl; usable = u }
+  exploring-start u = record { rest = rw (after-start (maskOf (o .stops) (o .routes) ms₀)); active = refl; mask = refl; usable = u }
 
   pub exploring-usable : {ws ms : List ℕ} {i : ℕ} → Exploring w o ws₀ ms₀ ws ms i → Usable (o .stops) (o .routes) ws ms
   exploring-usable h = h .usable
@@ -88,6 +90,7 @@ module _ {w : List ℕ} {o : Round} {ws₀ ms₀ : List ℕ} where
     exploring-step {ws′} {ms′} {r} f g = record {
       rest = rw (route-mask w o r ws ms ws′ ms′ g, g .holds) (rw (after-next i (maskOf (o .stops) (o .routes) ms) (sym f ∙ e)) at (h .rest));
       active = route-active w o r ws ms ws′ ms′ g ∙ h .active;
+      mask = route-mask w o r ws ms ws′ ms′ g ∙ h .mask;
       usable = g .usable;
     }
 
@@ -99,9 +102,11 @@ module _ {w : List ℕ} {o : Round} {ws₀ ms₀ : List ℕ} where
       usable = h .usable;
     }
 
--- a mark of an arrival search
-pub placed-on : {w : List ℕ} {o : Round} {r : ℕ} {ws₀ ms₀ ws ms : List ℕ} {i : ℕ} → Exploring w o ws₀ ms₀ ws ms i → InRound w o
-    → Placed (o .direction) (netOf w) ((view (o .stops) (o .routes) ws₀ ms₀) .active) → o .direction ≡ Arrival → r < o .routes
-    → getD (activeOf (o .stops) (o .routes) ws) r 0 < netOf w .positions r
-unfolding view
-placed-on {r = r} h g z e l = rw (h .active) (z e r (rw (g .fixed .routes) at l))
+    -- the mark of the route, in an arrival search
+    pub placed-on : {r : ℕ} → x ≡ At r → Placed (o .direction) (netOf w) (view (o .stops) (o .routes) ws₀ ms₀) → o .direction ≡ Arrival
+        → getD (activeOf (o .stops) (o .routes) ws) r 0 < netOf w .positions r
+    unfolding view
+    placed-on {r} f z a =
+        rw (h .active)
+        (visited (λ r. getD (activeOf (o .stops) (o .routes) ws₀) r 0 < netOf w .positions r) i (maskOf (o .stops) (o .routes) ms₀)
+        (z a) (rw (h .mask) at e) f)

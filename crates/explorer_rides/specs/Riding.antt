@@ -17,8 +17,9 @@ use Rattle.model.specs.Legs.{legOf}
 use Rattle.model.specs.Moments.{MAX, reading}
 use Rattle.model.specs.Rides.{leave, catch, allows, boarded}
 use Rattle.repository.specs.Accepted.{Accepted}
+use Rattle.repository.specs.Sections.{arrivalIn, departureIn}
 use Rattle.repository.specs.NetOf.{netOf}
-use Rattle.repository.specs.Rows.{TripOf, timeRow, arrivalIn, departureIn}
+use Rattle.repository.specs.Rows.{TripOf, timeRow}
 use Rattle.discovery.specs.declared.Trip.{Trip}
 use Rattle.discovery.specs.declared.Trip.the-variants.{At, Nothing}
 use Rattle.explorer.specs.declared.Round.{Round}
@@ -55,12 +56,12 @@ pub record Riding (w : List ℕ) (o : Round) (r : ℕ) (stops : List ℕ) : Type
   pub route : r < netOf w .routes
   pub along : stops ≡ tab (netOf w .stopAt r) (netOf w .positions r) 0
 
--- at a position of it
-pub record OnRoute (w : List ℕ) (p : Call) : Type 0 where
+-- at a call: a position of a route, with its stop
+pub record OnRoute (w : List ℕ) (here : Call) : Type 0 where
   pub accepted : Accepted w
-  pub route : p .route < netOf w .routes
-  pub position : p .position < netOf w .positions (p .route)
-  pub stop : p .stop ≡ netOf w .stopAt (p .route) (p .position)
+  pub route : here .route < netOf w .routes
+  pub position : here .position < netOf w .positions (here .route)
+  pub stop : here .stop ≡ netOf w .stopAt (here .route) (here .position)
 
 -- the model's `board` where the label of the round before is x
 unfoldable pub boardAt : Direction → Net → ℕ → ℕ → ℕ → Aboard → Aboard

@@ -7,12 +7,12 @@ pub mod arrival; // arrival.rt: the scan against time, from its mark down to its
 
 ghost use mathlib.Core.Path.{_≡_};
 ghost use Rattle.model.specs.declared.Direction.the-variants.{Departure, Arrival};
+ghost use Rattle.model.specs.Choosing.{Placed};
 ghost use Rattle.repository.specs.NetOf.{netOf};
 ghost use Rattle.allocator.specs.Layout.{view};
 ghost use Rattle.allocator.specs.Does.{Usable, Does};
 ghost use Rattle.explorer.specs.Fixed.{InRound};
 ghost use Rattle.explorer.specs.Fused.{ridesWork};
-ghost use Rattle.model.proofs.Choosing.{Placed};
 use explorer::Round;
 use marks::Next;
 
@@ -33,6 +33,7 @@ pub struct Call {
     pub stop: u32,
 }
 
+// The routes that the round chose, ascending.
 pub fn explore_routes(tables: &[u32], words: &mut [u32], marks: &mut [u64], round: Round)
     requires { ⌜ InRound (now tables) round ⌝ }
     requires { ⌜ round .direction ≡ Departure ⌝ }
@@ -54,12 +55,12 @@ pub fn explore_routes(tables: &[u32], words: &mut [u32], marks: &mut [u64], roun
     }
 }
 
-// There is no target test; the round's target is named for the statement's sake.
+// The same against time. There is no target test; the round's target is named for the statement's sake.
 pub fn explore_routes_reverse(tables: &[u32], words: &mut [u32], marks: &mut [u64], round: Round)
     requires { ⌜ InRound (now tables) round ⌝ }
     requires { ⌜ round .direction ≡ Arrival ⌝ }
     requires { ⌜ Usable (round .stops) (round .routes) (now words) (now marks) ⌝ }
-    requires { ⌜ Placed (round .direction) (netOf (now tables)) ((view (round .stops) (round .routes) (now words) (now marks)) .active) ⌝ }
+    requires { ⌜ Placed (round .direction) (netOf (now tables)) (view (round .stops) (round .routes) (now words) (now marks)) ⌝ }
     ensures { λ _. ⌜ Does (round .stops) (round .routes)
         (ridesWork (round .direction) (netOf (now (tables .entry))) (round .number) (round .target .0))
         (now (words .entry)) (now (marks .entry)) (now (words .exit)) (now (marks .exit)) ⌝ }

@@ -30,7 +30,7 @@ cast-explore-route c = record { fits = search (needs, next-fits) }
 explore-route-requires : tie.Need-explore-route-requires Inv-loop μ-loop
 explore-route-requires c κs = (
   search needs,
-  (search needs, (search (needs, exploring-usable), (search (needs, next-below), search (needs, placed-on, next-below)))),
+  (search needs, (search (needs, exploring-usable), (search (needs, next-below), search (needs, placed-on)))),
 )
 
 add-from : tie.Need-add-from Inv-loop μ-loop
