@@ -33,4 +33,5 @@ module _ {w : List ℕ} {r i v : ℕ} (l : Laid w) (k : Listed w) (hr : r < netO
     unfolding netOf count timeRow timeCount tripCount
     rows-in =
         let long = k .trip-long r (sec w ROUTE-TRIP-STARTS r + i) hr place-under in
-        omega (arith, (rw (← e) at long), starts-top (l .time-starts) (v + 1) (omega (arith, trip-there)))
+        let on = l .time-starts .rise v (omega (arith, trip-there)) in
+        omega (arith, on, (rw (← e) at long), starts-top (l .time-starts) (v + 1) (omega (arith, trip-there)))
