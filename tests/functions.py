@@ -24,9 +24,9 @@ OUTSIDE = {
     "telling::meant::print_missing": PRINTS,
     "telling::moment::print_moment": PRINTS,
     "telling::tell": PRINTS,
-    "kiosk::options::with_option": PRINTS + " what is wrong with an option; what it means is `arguments::options::with_said`",
-    "kiosk::query::read_query": READS,
-    "kiosk::query::asks_help": READS,
+    "querying::options::with_option": PRINTS + " what is wrong with an option; what it means is `arguments::options::with_said`",
+    "querying::read_query": READS,
+    "querying::asks_help": READS,
 }
 # What states less than it could, and why that is borne: nothing.
 LESS = {}

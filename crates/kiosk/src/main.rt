@@ -1,11 +1,9 @@
 // Answers one query for a person: where from, where to, when; the journey comes in plain words, or why there is none. The buffers of the
 // program take 57 KiB in all.
 mod network; // network.rt: network N, which is built in
-mod options; // options.rt: the options that the arguments say
-mod query; // query.rt: the query that the arguments are
 
-use query::Asked;
-use query::Question;
+use querying::Asked;
+use querying::Question;
 
 // Asks the search, and tells the answer.
 fn answer(tables: &[u32], path: &[u8], asked: Question) {
@@ -59,11 +57,11 @@ fn print_usage() {
 
 fn main() {
     let mut buffer = [0u8; 1024];
-    if query::asks_help(&mut buffer) {
+    if querying::asks_help(&mut buffer) {
         print_usage();
         return;
     }
-    let asked = query::read_query(&mut buffer);
+    let asked = querying::read_query(&mut buffer);
     let Asked::Question(a) = asked else {
         print_usage();
         return;

@@ -1,10 +1,10 @@
--- `kiosk::query::read_options` ends.
+-- `querying::read_options` ends.
 use borrow.Author.Needs.{needs}
 use mathlib.Core.Path.{_≡_}
 use lib.ListN.{length}
 use Prim.Native.Nat.{_-_}
-use Rattle.kiosk.proofs.query.read_options.Statement.{statement}
-use Rattle.kiosk.proofs.query.read_options.Tie as tie
+use Rattle.querying.proofs.read_options.Statement.{statement}
+use Rattle.querying.proofs.read_options.Tie as tie
 
 abbrev Inv-loop : tie.InvT-loop
 Inv-loop buffer₀ count o₀ i₀ buffer o i = length buffer ≡ length buffer₀

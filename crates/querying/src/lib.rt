@@ -1,6 +1,6 @@
 // The query that the arguments are, or a line that says which argument is bad and why.
-use super::options;
-use super::options::Read;
+mod options; // options.rt: the options that the arguments say
+
 use arguments::moment::Moment;
 use arguments::options::Options;
 use model::Location;
@@ -8,6 +8,7 @@ use model::Mode;
 use model::Query;
 use model::TimeConstraint;
 use model::Walks;
+use options::Read;
 use shared::Time;
 
 // A query, the place of the argument that names a file of tables, 0 for none, and the timetable's midnight.
