@@ -6,7 +6,7 @@ import concurrent.futures, glob, os, re, shutil, subprocess, sys, tempfile
 HERE = os.path.abspath(os.path.join(os.path.dirname(os.path.abspath(__file__)), ".."))
 PAGE, COPIES, LIST, LISTS, LETTER = "docs/PROMISES.md", "docs/STATEMENTS.md", "tests/sentences.txt", "tests/functions.py", "docs/LETTER.md"
 PROMISES, FUNCTIONS, SIGNED = ["tests/promises.py"], ["tests/functions.py", "check"], ["tools/letter.py", "check"]
-RULES, LAYOUT = ["tests/house.py"], ["tests/tables.py"]
+RULES, LAYOUT, NUMBERS = ["tests/house.py"], ["tests/tables.py"], ["tests/sections.py"]
 TABLES, SECTIONS, LIMITS = "docs/TABLES.md", "crates/repository/specs/Sections.antt", "crates/model/specs/Limits.antt"
 EDITS, TIMED, TIMES = ["tests/edits.py", "before"], ["tests/times.py", "check"], "docs/CHECK-TIMES.md"
 WORKERS = 2
@@ -284,9 +284,9 @@ MUTATIONS = [
     ("a header that is too long for its sections", lambda: sub(SECTIONS, "HEADER = 20", "HEADER = 21"), False, LAYOUT, "a header of 21 words does not say"),
     ("a section of another length", lambda: sub(TABLES, "| `SERVED` | S |", "| `SERVED` | S + 1 |"), False, LAYOUT, "SERVED has `S` words"),
     ("the starts of another list", lambda: sub(TABLES, "starts of `CHILDREN`, by stop", "starts of `CHILDREN`, by route"), False, LAYOUT, "CHILD-STARTS has the starts of CHILDREN, by stop"),
-    ("a section with another number in code", lambda: sub("crates/repository/src/sections.rt", "pub const WALKS: usize = 10;", "pub const WALKS: usize = 11;"), False, LAYOUT, "WALKS is 10 in"),
-    ("a section's number in code", added("crates/repository/src/calls.rt", "fn more(tables: &[u32]) -> u32 {\n    word(tables, 7, 0)\n}\n"), False, LAYOUT, "a section by its number: word(tables, 7"),
-    ("a section's number in a proof", added("crates/repository/proofs/Stops.antt", "more : (w : List ℕ) → sec w 7 0 ≡ sec w 7 0\nmore w = refl\n"), False, LAYOUT, "a section by its number: sec w 7"),
+    ("a section with another number in code", lambda: sub("crates/repository/src/sections.rt", "pub const WALKS: usize = 10;", "pub const WALKS: usize = 11;"), False, NUMBERS, "WALKS is 10, and in"),
+    ("a section's number in code", added("crates/repository/src/calls.rt", "fn more(tables: &[u32]) -> u32 {\n    word(tables, 7, 0)\n}\n"), False, NUMBERS, "word(tables, 7,"),
+    ("a section's number in a proof", added("crates/repository/proofs/Stops.antt", "more : (w : List ℕ) → sec w 7 0 ≡ sec w 7 0\nmore w = refl\n"), False, NUMBERS, "sec .. 7"),
     ("a limit raised, and its page not", lambda: sub(LIMITS, "MOST-TRIPS = 16_384", "MOST-TRIPS = 16_448"), False, LAYOUT, "MOST-TRIPS is 16448 in"),
     ("a limit that the page leaves out", added(LIMITS, "abbrev pub MOST-TRAMS : ℕ\nMOST-TRAMS = 7\n"), False, LAYOUT, "MOST-TRAMS is 7 in"),
     ("a limit of the tool raised alone", lambda: sub("tools/timetable.py", "16384, 262144,", "16448, 262144,"), False, LAYOUT, "TRIPS is 16448, and MOST-TRIPS"),

@@ -1,6 +1,6 @@
 #!/usr/bin/env python3
 # docs/TABLES.md held to the definitions: each section's number, name, length and row, each limit, each rule with its number, and N's words. The tools that
-# write tables and look for faults are held to the same names and numbers, and no section's number stands outside the two files that name them.
+# write tables and look for faults are held to the same names and numbers; that code and proofs call a section by its name is held by tests/sections.py.
 import glob, os, re, sys
 
 sys.dont_write_bytecode = True  # no folder of compiled scripts in the tree
@@ -11,7 +11,6 @@ import fault, timetable
 
 PAGE, REPOSITORY = "docs/TABLES.md", "crates/repository/specs"
 SECTIONS, LIMITS, LAID, LISTED, CHECKED = f"{REPOSITORY}/Sections.antt", "crates/model/specs/Limits.antt", f"{REPOSITORY}/Laid.antt", f"{REPOSITORY}/Listed.antt", f"{REPOSITORY}/Checked.antt"
-CODE = "crates/repository/src/sections.rt"
 wrong = 0
 
 
@@ -78,11 +77,7 @@ for words in (f"a header of {header} words; then come {count} sections", f"that 
     if words not in " ".join(text_of(PAGE).split()):
         complain(f"it does not say: {words}")
 
-# ==== the same names in code and in the tools
-if there(CODE):
-    code = {name.replace("_", "-"): int(value) for name, value in re.findall(r"^pub const (\w+): usize = (\d+);$", text_of(CODE), re.M)}
-    for name in sorted(n for n in named if code.get(n) != named[n]):
-        complain(f"{name} is {named[name]} in {SECTIONS}, and {code.get(name, 'nothing')} here", CODE)
+# ==== the same names in the tools (in code: tests/sections.py)
 if [n.replace("-", " ").lower() for k, n in sorted(sections.items())] != fault.NAMES:
     complain(f"its names of the sections are not those of {SECTIONS}", "tools/fault.py")
 if {k: len(c) for k, c in fault.COLUMNS.items()} != {k: wide[n] for k, n in sections.items() if wide.get(n, 1) > 1}:
@@ -155,16 +150,6 @@ if not proved:
     complain("no file of proofs has the words of N", "crates")
 if fault.faults(words)[0]:
     complain("tools/fault.py finds a fault in N")
-
-# ==== no section's number outside the two files that name them
-for path in sorted(os.path.relpath(p, HERE) for end in ("antt", "rt") for p in glob.glob(f"{HERE}/crates/*/*/**/*.{end}", recursive=True)):
-    if path in (SECTIONS, CODE) or "/must-fail/" in path:
-        continue
-    text = re.sub(r"--[^\n]*|//[^\n]*", "", text_of(path))
-    for found in re.finditer(r"(?<![\w-])(?:sec|size|start|rows|count|Under|Entry|Starts|starting|among|indexed|inRange|distinct|under) \(?w\)? (\d+)(?![\w])", text):
-        complain(f"a section by its number: {found.group(0)}", f"{path}, line {text.count(chr(10), 0, found.start()) + 1}")
-    for found in re.finditer(r"(?<![\w])(?:word|head|size|size_of|entries|entries_of|rows_of|item|count_of|in_range|row_from|row_to|row_count|part)\(tables, (\d+)", text):
-        complain(f"a section by its number: {found.group(0)}", f"{path}, line {text.count(chr(10), 0, found.start()) + 1}")
 
 print(f"{count} sections, {len(most)} limits, {len(rules)} rules, {len(words)} words of N, {wrong} wrong")
 sys.exit(wrong > 0)
