@@ -1,6 +1,6 @@
 #!/usr/bin/env python3
-# A test of the tests: a copy of the tree is damaged in each way in which a page could come to say more than is so, and tests/promises.py,
-# tests/functions.py, tests/edits.py, tests/times.py or tools/letter.py must complain. Where a page is made from the tree it is made anew first, as a hurried hand would.
+# A test of the tests: a copy of the tree is damaged in each way in which a page could come to say more than is so, or the house could fall into disorder, and
+# the script that holds it must complain. Where a page is made from the tree it is made anew first, as a hurried hand would.
 import concurrent.futures, glob, os, re, shutil, subprocess, sys, tempfile
 
 HERE = os.path.abspath(os.path.join(os.path.dirname(os.path.abspath(__file__)), ".."))
@@ -343,7 +343,7 @@ def try_some(ways):
                 missed.append(f"not noticed: {what}\n{said}")
             put_back()
         if 0 in ways:  # the tree as it is passes
-            missed += [f"with nothing damaged, {words[0]} says\n{said}" for words in (PROMISES, FUNCTIONS, EDITS, TIMED, SIGNED) for status, said in [run(*words)] if status != 0]
+            missed += [f"with nothing damaged, {words[0]} says\n{said}" for words in (PROMISES, FUNCTIONS, EDITS, TIMED, SIGNED, RULES, LAYOUT, NUMBERS) for status, said in [run(*words)] if status != 0]
     finally:
         shutil.rmtree(os.path.dirname(room))
     return missed
