@@ -2,13 +2,13 @@
 """Damaged tables and the number that document 01's check gives them, by a second writing of the check (tests/second_check.py).
 
   damage.py list              the short list that the gate replays: net lines to stdout, numbers to stderr
-  damage.py held              that crates/checktables/stdin and stdout are this list, byte for byte, and that crates/kiosk has N's words
+  damage.py held              that crates/checktables/stdin and stdout are this list, byte for byte
   damage.py run COUNT SEED    COUNT damaged tables through the program, compared number by number
 
 The program is target/bin/checktables; PROGRAM may name another command that runs it. The networks that are damaged are small nasty ones of this seed
 (compare/generate.sh).
 """
-import os, random, re, shlex, struct, subprocess, sys
+import os, random, shlex, struct, subprocess, sys
 
 sys.dont_write_bytecode = True  # no folder of compiled scripts in the tree
 here = os.path.dirname(os.path.abspath(__file__))
@@ -139,9 +139,6 @@ def held():
         with open(os.path.join(root, "crates/checktables", name)) as kept:
             if kept.read() != made:
                 sys.exit(f"crates/checktables/{name} is not what tests/damage.py makes")
-    with open(os.path.join(root, "crates/kiosk/src/network.rt")) as source:
-        if [int(x) for x in re.findall(r"\b[0-9]+\b", source.read().split("= [")[1])] != dict(listed())["N"]:
-            sys.exit("crates/kiosk/src/network.rt does not hold N's words")
     print("crates/checktables: its list is as tests/damage.py makes it,", sum(1 for _ in listed()), "tables with their numbers")
 
 
