@@ -306,10 +306,10 @@ static void change_growth(input *in) {
     static const struct { uint32_t grown, section, most; } some[] = {
         { BIT(STOP_LIST) | BIT(STATIONS) | BIT(CHILD_STARTS) | BIT(CALL_STARTS) | BIT(SERVED) | BIT(TRANSFER_STARTS) | BIT(WALK_STARTS),
           STOP_LIST, MOST_STOPS },
-        { BIT(ROUTE_TRIPS) | BIT(TIME_STARTS), ROUTE_TRIPS, MOST_TRIPS }, { BIT(TIMES), TIMES, TIME_WORDS * MOST_TIMES },
+        { BIT(ROUTE_TRIPS) | BIT(TIME_STARTS), ROUTE_TRIPS, MOST_TRIPS }, { BIT(TIMES), TIMES, TIME_WORDS * MOST_STOP_TIMES },
         { BIT(TRANSFERS), TRANSFERS, TRANSFER_WORDS * MOST_TRANSFERS }, { BIT(WALKS), WALKS, WALK_WORDS * MOST_WALKS },
         { BIT(ROUTE_STOPS), ROUTE_STOPS, MOST_POSITIONS }, { BIT(AREA_STARTS), AREA_STARTS, MOST_AREAS + 1 },
-        { BIT(AREA_STOPS), AREA_STOPS, MOST_AREA_STOPS } };
+        { BIT(AREA_STOPS), AREA_STOPS, MOST_AREA_ENTRIES } };
 #undef BIT
     uint32_t i = below_n(sizeof some / sizeof some[0]), k = some[i].section, n = wide[k] ? wide[k] : 1, over = n * below_n(2);
     if (!framed(in->word, in->bytes / 4)) return;

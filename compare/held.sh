@@ -1,6 +1,7 @@
 #!/bin/sh
 # The lists that are kept, held to what makes them: the networks and queries of oracle/cases.txt to the seeds that they are drawn from; the list that
-# the program `replay` is run on to them, and what it must print to plain C. The Rust is not asked: oracle/replay.sh does.
+# the program `replay` is run on to them, and what it must print to plain C. The Rust is not asked: oracle/replay.sh does. And the names and limits of
+# plain/tables.h, held to those of the proved code.
 set -eu
 cd "$(dirname "$0")/.."
 out=target/compare list=crates/replay
@@ -30,3 +31,12 @@ tail -n "$(wc -l < oracle/answers.txt)" $list/stdout | cmp - oracle/answers.txt
 cc -O2 -o $out/replay compare/replay.c compare/lines.c compare/face.c plain/search.c plain/check.c
 $out/replay $list/stdin | cmp - $list/stdout
 echo "$list: its list is made of the kept one, and plain C gives its $(wc -l < $list/stdout) lines"
+
+# each constant of the layout that plain C has too
+sed -n 's/^pub const \([A-Z_]*\): [a-z0-9]* = \([0-9_]*\);$/\1 \2/p' crates/repository/src/sections.rt crates/repository/src/limits.rt |
+    while read -r name value; do
+        ! grep -qw "$name" plain/tables.h || echo "_Static_assert($name == $(echo "$value" | tr -d _), \"$name\");"
+    done > $out/layout.c
+[ "$(wc -l < $out/layout.c)" -ge 36 ] || { echo "plain/tables.h has other names than crates/repository/src"; exit 1; }
+cc -fsyntax-only -include plain/tables.h $out/layout.c
+echo "plain/tables.h: $(wc -l < $out/layout.c) names and limits are those of crates/repository"

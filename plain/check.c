@@ -32,8 +32,8 @@ uint32_t plain_check(const uint32_t *w, size_t len) {
     if (SIZE(CALLS) % CALL_WORDS || SIZE(TRANSFERS) % TRANSFER_WORDS || SIZE(WALKS) % WALK_WORDS || SIZE(TIMES) % TIME_WORDS) return 1;
     uint32_t R = SIZE(ROUTE_STOP_STARTS) - 1, T = SIZE(TIME_STARTS) - 1, A = SIZE(AREA_STARTS) - 1, Q = SIZE(CALLS) / CALL_WORDS,
         F = SIZE(TRANSFERS) / TRANSFER_WORDS, W = SIZE(WALKS) / WALK_WORDS, X = SIZE(TIMES) / TIME_WORDS;
-    if (S > MOST_STOPS || R > MOST_ROUTES || T > MOST_TRIPS || X > MOST_TIMES || F > MOST_TRANSFERS || W > MOST_WALKS || A > MOST_AREAS
-        || SIZE(AREA_STOPS) > MOST_AREA_STOPS) return 1;
+    if (S > MOST_STOPS || R > MOST_ROUTES || T > MOST_TRIPS || X > MOST_STOP_TIMES || F > MOST_TRANSFERS || W > MOST_WALKS || A > MOST_AREAS
+        || SIZE(AREA_STOPS) > MOST_AREA_ENTRIES) return 1;
     const uint32_t *st = section_of(w, STATIONS), *cs = section_of(w, CHILD_STARTS), *ch = section_of(w, CHILDREN),
         *qs = section_of(w, CALL_STARTS), *q = section_of(w, CALLS), *sv = section_of(w, SERVED), *fs = section_of(w, TRANSFER_STARTS),
         *f = section_of(w, TRANSFERS), *ws = section_of(w, WALK_STARTS), *wk = section_of(w, WALKS), *ps = section_of(w, ROUTE_STOP_STARTS),
