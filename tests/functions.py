@@ -134,9 +134,11 @@ def fixed_by(f, what):
         for c in (c for c in conjuncts if re.search(shape, c)):
             spoken = True
             for law in (w for w in LAWS if re.search(rf"(?<![\w-]){w}(?![\w-])", c) and source(*LAWS[w])):
+                told = " ".join(a for a in arguments(c) if not re.fullmatch(r"\(now \(\S+ \.exit\)\)", a))
+                if law == "Does" and re.search(shape, told):
+                    continue  # the operation is told by what it leaves
                 laws.append(law)
                 if law == "Does":  # what the operation is must itself be fixed: all of it but the words and marks that it leaves
-                    told = " ".join(a for a in arguments(c) if not re.fullmatch(r"\(now \(\S+ \.exit\)\)", a))
                     rests |= {w for w in others if (w or name != "_") and re.search(shape_of(w, name), told)}
             both = sides(c)
             for side, other in (both, both[::-1]) if both else ():
