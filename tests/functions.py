@@ -39,9 +39,10 @@ LAWS = {
     "Ran": ("raptor/proofs/Unique.antt", "ran-unique"),
     "Tells": ("asking/proofs/Unique.antt", "asked-unique"),
     "Does": ("allocator/proofs/Same.antt", "same-words"),
+    "Usable": ("allocator/proofs/Same.antt", "same-words"),
     "Tidy": ("allocator/proofs/Same.antt", "same-words"),
-    "Kept": ("allocator/proofs/Same.antt", "same-words"),
 }
+BESIDE = ("Usable", "Tidy")  # nothing stands beside the state: the rest is said by the state itself
 EQUATION = "equation"
 
 
@@ -155,10 +156,10 @@ def fixed_by(f, what):
                 state = state or bool(re.match(r"(view|stateOf \(view) ", side) and re.search(shape, side))
     if fields and fields >= fields_of(f.result):
         return EQUATION, rests
-    if laws and laws[0] not in ("Tidy", "Kept"):
+    if laws and laws[0] not in BESIDE:
         return laws[0], rests if laws[0] == "Does" else set()
     # the state that words and marks hold is said whole, and that nothing stands beside it
-    beside = next((w for w in ("Tidy", "Kept") for c in f.says if re.search(rf"(?<![\w-]){w}(?![\w-])", c) and source(*LAWS[w])), None)
+    beside = next((w for w in BESIDE for c in f.says if re.search(rf"(?<![\w-]){w}(?![\w-])", c) and source(*LAWS[w])), None)
     if state and beside:
         return beside, set()
     return ("open" if spoken else "unsaid"), set()
@@ -234,11 +235,7 @@ for crate in FILES:
                 complain(f"{f.path}: {f.where} does not say {', '.join(unsaid)}")
             elif loose:
                 complain(f"{f.path}: {f.where} leaves open {', '.join(loose)}")
-        laws = []
-        for law in {b for b in by.values() if b in LAWS}:
-            name = LAWS[law][1]
-            kept = law == "Kept" and not any("Tidy" in c for c in f.asks)
-            laws.append(f"`{name}`" + (" where the workspace lent is tidy; of another, what stands beside the state is open" if kept else ""))
+        laws = {f"`{LAWS[b][1]}`" for b in by.values() if b in LAWS}
         reason = OUTSIDE.get(f.where) or LESS.get(f.where) or (f.where in OPEN and "open: " + OPEN[f.where]) or ""
         unique = "; ".join((["equation"] if EQUATION in by.values() else []) + sorted(laws) + ([reason] if reason else []))
         rows.append(f"| `{f.where}` | [`{f.path[len('crates/'):]}`](../{f.path}) | {len(f.asks) or ''} | {stated(f) or 'nothing'} | {unique} |")
@@ -257,8 +254,8 @@ What is stated is the contract's own text. Only three things are written shorter
 `crates/NAME/specs`; those that the promises rest on are copied in [STATEMENTS.md](STATEMENTS.md).
 
 The last column: *equation*, where the result and each slice that may be written is said to be equal to something; then two results are equal at once.
-`same-words` (`allocator/proofs/Same.antt`), where it says the state that words and marks hold and that they are tidy (nothing stands beside that
-state), or the record `Does`, which says both: two tidy workspaces of one state are equal word for word. `solved-unique`, `ran-unique`
+`same-words` (`allocator/proofs/Same.antt`), where it says the state that words and marks hold and that they are `Tidy` or `Usable` (nothing stands beside
+that state), or the record `Does`, which says both: two tidy workspaces of one state are equal word for word. `solved-unique`, `ran-unique`
 (`raptor/proofs/Unique.antt`), `faced-unique` (`kiosk_c/proofs/Unique.antt`) and `asked-unique` (`asking/proofs/Unique.antt`), where it is the record
 `Solved`, `Ran`, `Faced` or `Tells`. What prints or reads, states less, or is left open stands there with the reason; `tests/functions.py` has the lists,
 function by function, and refuses a name that stands there without need.

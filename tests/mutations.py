@@ -145,6 +145,12 @@ def checked_says(new):
     return damage
 
 
+def state_only():
+    """The search with nothing said of what stands beside the state."""
+    head = head_of("crates/raptor_rounds/src/lib.rt", "search")
+    sub("crates/raptor_rounds/src/lib.rt", head, re.sub(r"\n    ensures \{ λ _\. ⌜ (?:Usable|Tidy) .*?⌝ \}", "", head, flags=re.S))
+
+
 def nothing_of_the_result():
     head = head_of("crates/check_tables/src/lib.rt", "check")
     sub("crates/check_tables/src/lib.rt", head, re.sub(r"λ r\. ⌜ r ≡ .*? ⌝", "λ _. ⌜ 0 ≡ 0 ⌝", head))
@@ -221,6 +227,7 @@ MUTATIONS = [
     ("a slice that may be written, and nothing said of it", dropped_clause, True, FUNCTIONS, "kiosk_read does not say what it leaves in told"),
     ("a result of which only a bound is said", checked_says("r ≤ 5"), True, FUNCTIONS, "check_tables::check leaves open its result"),
     ("a result that is said only on a condition", checked_says("r ≡ 0 → SAID"), True, FUNCTIONS, "check_tables::check leaves open its result"),
+    ("a workspace of which only the state is said", state_only, True, FUNCTIONS, "raptor_rounds::search leaves open its result, what it leaves in words, what it leaves in marks"),
     ("an operation that is told by what it leaves", lambda: sub(LIB, "Does n m (swapped n)", "Does n m (λ _. view n m (now (words .exit)) (now (marks .exit)))"), True, FUNCTIONS, "allocator::swap_labels leaves open what it leaves in words, what it leaves in marks"),
     ("a result that is said to be itself", checked_says("r ≡ r"), True, FUNCTIONS, "check_tables::check leaves open its result"),
     ("a result of which nothing is said", nothing_of_the_result, True, FUNCTIONS, "check_tables::check does not say its result"),
