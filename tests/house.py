@@ -197,27 +197,39 @@ for name in sorted(n for n in ALONE if all(k in reached for k in LAW if k[1] == 
     complain("tests/house.py", f"{name} is reached, or is nothing of ours: take it off the list")
 
 # ==== the drawing of the crates
+# The columns of the house, each with the comments of crates.txt under which its crates stand.
+COLUMNS = [("the ground", ("",)), ("the tables", ("the tables",)), ("the search", ("the search",)), ("its faces", ("the hypotheses", "what C")), ("programs", ("programs", "what a person"))]
+
+
 def floors():
-    """The crates by floor: each stands one above the highest of those that it rests on."""
-    needs = {l.split(":")[0]: l.split(":")[1].split() for l in text_of("crates.txt").split("\n") if re.match(r"\w+:", l)}
-    at = {}
-    for crate, below in needs.items():
-        at[crate] = 1 + max((at[b] for b in below if b in at), default=-1)
-    return [[c for c in needs if at[c] == floor] for floor in range(max(at.values()) + 1)]
+    """Each crate with its floor, one above the highest of those that it rests on, and its column."""
+    at, column, found = {}, 0, {}
+    for line in text_of("crates.txt").split("\n")[1:]:
+        if line.startswith("#"):
+            own = [c for c, (head, words) in enumerate(COLUMNS) if any(w and line[1:].strip().startswith(w) for w in words)]
+            column = own[0] if own else column
+            if not own:
+                complain("crates.txt", f"tests/house.py does not know in which column of the drawing this stands: {line}")
+        elif ":" in line:
+            crate, below = line.split(":")
+            at[crate] = 1 + max((at[b] for b in below.split() if b in at), default=-1)
+            found[crate] = (at[crate], column)
+    return found
 
 
 def drawing():
-    """The house from the roof down, as docs/PROVING.md has it."""
-    rows = []
-    for number, crates_of in reversed(list(enumerate(floors()))):
-        line, lines = "", []
-        for crate in crates_of:
-            if len(line) + len(crate) > 110:
-                lines.append(line)
-                line = ""
-            line += crate + "   "
-        lines.append(line)
-        rows += [f"{number if i == 0 else '':>3}  {l.rstrip()}" for i, l in enumerate(lines)]
+    """The house from the roof down, as docs/PROVING.md has it: a row for each floor, a column for each part."""
+    found = floors()
+    cells = {}
+    for crate, where_ in found.items():
+        cells.setdefault(where_, []).append(crate)
+    wide = [max([len(head)] + [len(c) for (f, k), own in cells.items() if k == column for c in own]) for column, (head, words) in enumerate(COLUMNS)]
+    rows = ["     " + "   ".join(head.ljust(w) for (head, words), w in zip(COLUMNS, wide)).rstrip()]
+    for floor in reversed(range(1 + max(f for f, k in found.values()))):
+        own = [cells.get((floor, column), []) for column in range(len(COLUMNS))]
+        rows.append("     " + "─" * (sum(wide) + 3 * (len(wide) - 1)))
+        for line in range(max(map(len, own))):
+            rows.append(f"{floor if line == 0 else '':>3}  " + "   ".join((c[line] if line < len(c) else "").ljust(w) for c, w in zip(own, wide)).rstrip())
     return "\n".join(rows)
 
 
@@ -261,5 +273,5 @@ for path in files("docs/*.md"):
     if path != "docs/LETTER.md" and "README.md" not in linked.get(path, ()):  # the letter is for who needs no other page
         complain(path, "it does not lead back to README.md")
 
-print(f"{len(crates())} crates on {len(floors())} floors, {len(where)} names of definitions, {len(LAW)} laws and definitions, {sum(map(len, linked.values()))} pages linked, {wrong} wrong")
+print(f"{len(crates())} crates on {1 + max(f for f, k in floors().values())} floors, {len(where)} names of definitions, {len(LAW)} laws and definitions, {sum(map(len, linked.values()))} pages linked, {wrong} wrong")
 sys.exit(wrong > 0)
