@@ -38,7 +38,7 @@ LAWS = {
     "Faced": ("kiosk_c/proofs/Unique.antt", "faced-unique"),
     "Ran": ("raptor/proofs/Unique.antt", "ran-unique"),
     "Tells": ("asking/proofs/Unique.antt", "asked-unique"),
-    "Does": ("allocator/proofs/Same.antt", "same-words"),
+    "Does": ("allocator/proofs/Unique.antt", "does-unique"),
     "Usable": ("allocator/proofs/Same.antt", "same-words"),
     "Tidy": ("allocator/proofs/Same.antt", "same-words"),
 }
@@ -254,8 +254,9 @@ What is stated is the contract's own text. Only three things are written shorter
 `crates/NAME/specs`; those that the promises rest on are copied in [STATEMENTS.md](STATEMENTS.md).
 
 The last column: *equation*, where the result and each slice that may be written is said to be equal to something; then two results are equal at once.
-`same-words` (`allocator/proofs/Same.antt`), where it says the state that words and marks hold and that they are `Tidy` or `Usable` (nothing stands beside
-that state), or the record `Does`, which says both: two tidy workspaces of one state are equal word for word. `solved-unique`, `ran-unique`
+`does-unique` (`allocator/proofs/Unique.antt`), where it is the record `Does`; `same-words` (`allocator/proofs/Same.antt`), where it says the state that
+words and marks hold and that they are `Tidy` or `Usable` (nothing stands beside that state): two tidy workspaces of one state are equal word for word.
+`solved-unique`, `ran-unique`
 (`raptor/proofs/Unique.antt`), `faced-unique` (`kiosk_c/proofs/Unique.antt`) and `asked-unique` (`asking/proofs/Unique.antt`), where it is the record
 `Solved`, `Ran`, `Faced` or `Tells`. What prints or reads, states less, or is left open stands there with the reason; `tests/functions.py` has the lists,
 function by function, and refuses a name that stands there without need.
