@@ -9,7 +9,7 @@ PAGE, MOST, FILES, SLOWER = "docs/CHECK-TIMES.md", 25, 2, {"x86-64": 1, "Arm": 1
 OLD = "allocator explorer_rides raptor_rounds raptor kiosk_c replay check_listing telling kiosk querying".split()
 # The crates with more files of edits than two: how many, and why. None may have more than is said here.
 MORE = {
-    "model": (50, "edits of definitions: every worked network runs the whole search, so a refusal does not tell which of two is meant; a check takes 5 seconds"),
+    "model": (51, "edits of definitions: every worked network runs the whole search, so a refusal does not tell which of two is meant; a check takes 5 seconds"),
     "explorer": (3, "three edits of one file of definitions; a check takes 2 seconds"),
     "shared": (3, "three edits of distance_ok; a check takes 3 seconds"),
     "raptor_reply": (4, "four edits of its one function; a check takes 5 seconds"),

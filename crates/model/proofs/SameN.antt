@@ -14,7 +14,8 @@ use Rattle.model.specs.Answer.{answer}
 use Rattle.model.specs.Alike.{Alike}
 use Rattle.model.proofs.Examples.{N, N-with, net, no-route, no-trip, among, serving, passed, naming, allTrips, tripsBefore}
 use Rattle.model.proofs.SoundN.{N-sound}
-use Rattle.model.proofs.Alike.{alike-answered}
+use Rattle.model.specs.Same.{Same, SamePlaces}
+use Rattle.model.proofs.Alike.{alike-same, alike-places, alike-answered}
 
 -- entry j of row i, and 77 where there is none
 abbrev at : List (List ℕ) → ℕ → ℕ → ℕ
@@ -65,6 +66,13 @@ N-beyond-alike = record {
 pub N-beyond-differs : N .stopAt 0 3 ≢ N-beyond .stopAt 0 3
 unfolding N N-with net no-route
 N-beyond-differs e = omega arith
+
+-- so far as they exist they are
+pub N-beyond-same : Same N N-beyond
+N-beyond-same = alike-same N-beyond-alike
+
+pub N-beyond-places : SamePlaces N N-beyond
+N-beyond-places = alike-places N-beyond-alike
 
 pub N-beyond-answered : (q : Query) (fault : ℕ) (sized : Bool) (room : ℕ)
     → answer fault sized N q room ≡ answer fault sized N-beyond q room
