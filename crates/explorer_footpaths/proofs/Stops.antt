@@ -1,12 +1,9 @@
 -- The footpaths of one stop, and those of all stops whose mark is held.
-use Prim.Native.Nat.{ℕ, zero, suc, _+_, _<_}
-use mathlib.Core.Path.{_≡_, refl, sym, ap, _∙_, subst}
+use Prim.Native.Nat.{ℕ, _+_, _<_}
+use mathlib.Core.Path.{_≡_, sym, ap, _∙_, subst}
 use mathlib.Core.Bool.{Bool, true, false}
-use mathlib.Core.List.{List, [], _∷_}
-use native.Mathlib.Nat.{add-zero, zero-add}
-use native.Mathlib.Omega.{arith}
-use lib.ListN.{getD, drop}
-use Rattle.base.specs.Each.{Each, nil, cons}
+use mathlib.Core.List.{List}
+use lib.ListN.{getD}
 use Rattle.marks.specs.Marks.{firstOf}
 use Rattle.marks.specs.declared.Next.{Next}
 use Rattle.marks.specs.declared.Next.the-variants.{At}
@@ -18,14 +15,14 @@ use Rattle.model.specs.Lists.{setIn}
 use Rattle.model.specs.Work.{Work}
 use Rattle.allocator.specs.Layout.{view, heldOf, heldMarkOf}
 use Rattle.allocator.specs.Marked.{after}
-use Rattle.allocator.proofs.Visited.{after-next}
 use Rattle.explorer.specs.declared.Round.{Round}
 use Rattle.explorer.specs.Fixed.{InRound}
-use Rattle.explorer.specs.Fused.{pathsWork, stopWork, stopsWork, feetWork}
+use Rattle.explorer.specs.Fused.{pathsWork, stopWork, feetWork}
 use Rattle.explorer.specs.Turns.{inTurn, Turn}
 use Rattle.explorer.proofs.Turns.{mark-start, mark-next}
+use Rattle.explorer.proofs.Visited.{visited}
 use Rattle.explorer_footpaths.specs.declared.Footpaths.the-variants.{Transfers, Walks}
-use Rattle.explorer_footpaths.specs.Footing.{kindOf, footsOf, Label, Footing, Leaving, footFrom}
+use Rattle.explorer_footpaths.specs.Footing.{kindOf, footsOf, Footing, Leaving, footFrom}
 use Rattle.explorer_footpaths.proofs.Held.{SameHeld, stop-held, paths-turn, stops-turn, label-held}
 
 -- ---- one stop
@@ -57,27 +54,6 @@ module _ (d : Direction) (t : Net) (k target s : ℕ) where
 -- the label as it was read
 pub leaving-at : {w : List ℕ} {o : Round} {s x y : ℕ} → Leaving w o s y → x ≡ y → Leaving w o s x
 leaving-at h e = rw e h
-
--- ---- what holds of every place set in a list of flags holds of the first one from i on
-drops : (P : ℕ → Type 0) (i j : ℕ) (fs : List Bool) → Each P (setIn j fs) → Each P (setIn (j + i) (drop i fs))
-unfolding setIn
-drops P zero j fs h = rw (add-zero j) h
-drops P (suc i) j [] h = nil
-drops P (suc i) j (true ∷ fs) (cons p h) =
-    subst (λ (o : ℕ). Each P (setIn o (drop i fs))) (omega arith) (drops P i (suc j) fs h)
-drops P (suc i) j (false ∷ fs) h =
-    subst (λ (o : ℕ). Each P (setIn o (drop i fs))) (omega arith) (drops P i (suc j) fs h)
-
-later : (P : ℕ → Type 0) (i : ℕ) (fs : List Bool) → Each P (setIn 0 fs) → Each P (after i fs)
-unfolding after
-later P i fs h = rw (zero-add i) at (drops P i 0 fs h)
-
-visited : (P : ℕ → Type 0) (i : ℕ) (fs : List Bool) {a : Next} {s : ℕ} → Each P (setIn 0 fs)
-    → a ≡ firstOf (after i fs) → a ≡ At s → P s
-visited P i fs {s = s} h e f = front (subst (Each P) (after-next i fs (sym f ∙ e)) (later P i fs h))
-  where
-    front : {l : List ℕ} → Each P (s ∷ l) → P s
-    front (cons p h) = p
 
 -- a stop whose mark is held can be left
 pub leaving : (p q : List ℕ) (i : ℕ) {w : List ℕ} {o : Round} {s : ℕ} {a : Next} → InRound w o
