@@ -19,11 +19,11 @@ LIMITS = os.path.join("crates", "model", "specs", "Limits.antt")
 LIMITS_CODE = os.path.join("crates", "repository", "src", "limits.rt")
 
 # definitions and laws by the place of the section among their arguments, counted from 0
-SECOND = """sec size rows count start Under Starts among fresh distinct indexed inRange under starting Entry Part Words listOf
+SECOND = """sec size rows count start Under Starts among unseen distinct indexed inRange under startsSection Entry Part EntryWords listOf
     markedOn markedBy Fitting room part-room row-room list-room word-in part-in under-shown index-shown distinct-shown under-so index-so
     distinct-so starting-so starting-shown"""
 PLACE = {name: 1 for name in SECOND.split()}
-PLACE.update({"Marks": 3, "stop-word": 0})
+PLACE.update({"JustMarked": 3, "stop-word": 0})
 # functions whose second argument is a section
 CALLED = """item word size_of entries_of entries rows_of count_of in_range marked_once row_from row_to row_count rows_in listing part size head
     starts_ok"""

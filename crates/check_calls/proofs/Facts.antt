@@ -11,7 +11,7 @@ use Rattle.base.proofs.Choice.{split}
 use Rattle.base.specs.All.{all}
 use Rattle.base.proofs.All.{all-at}
 use Rattle.repository.specs.Sections.{size, sec}
-use Rattle.repository.specs.Listed.{among, fresh, distinct, indexed, inRange, under}
+use Rattle.repository.specs.Listed.{among, unseen, distinct, indexed, inRange, under}
 use Rattle.repository.specs.Accepted.{Under}
 use Rattle.repository.proofs.All.{all-so}
 use Rattle.check_calls.proofs.Ranges.{some-shown, some-so}
@@ -39,17 +39,17 @@ module _ (w : List ℕ) (k n : ℕ) (f : ℕ → ℕ → Bool) where
 -- ---- words that differ
 module _ (w : List ℕ) (k a b : ℕ) where
   pub distinct-shown : distinct w k a b ≡ true → (i j : ℕ) → a ≤ i → i < j → j < b → sec w k i ≢ sec w k j
-  unfolding distinct fresh among
+  unfolding distinct unseen among
   distinct-shown e i j from h to same =
-      let new = all-at (fresh w k a) a b e j (omega arith) to in
+      let new = all-at (unseen w k a) a b e j (omega arith) to in
       let old =
       some-so (λ x. eqb (sec w k x) (sec w k j)) a j
       (record { at = i; from = from; to = h; passes = eq-eqb (sec w k i) (sec w k j) same }) in
       true≢false (sym (rw old at new))
 
   pub distinct-so : ((i j : ℕ) → a ≤ i → i < j → j < b → sec w k i ≢ sec w k j) → distinct w k a b ≡ true
-  unfolding distinct fresh among
-  distinct-so h = all-so (fresh w k a) a b new
+  unfolding distinct unseen among
+  distinct-so h = all-so (unseen w k a) a b new
     where
       new : (j : ℕ) → a ≤ j → j < b → cond (among w k a j (sec w k j)) false true ≡ true
       new j from to =

@@ -7,13 +7,13 @@ use lib.ListN.{set, replicate}
 use Rattle.base.specs.All.{every, all}
 use Rattle.repository.specs.Sections.{size, sec}
 use Rattle.repository.specs.NetOf.{count}
-use Rattle.repository.specs.Laid.{headed, sized, limited, starting, started, positioned, laid}
-use Rattle.repository.specs.Listed.{fails, some, among, fresh, distinct, indexed, inRange, under, inPlace, stopList}
+use Rattle.repository.specs.Laid.{headed, wellSized, limited, startsSection, wellStarted, positioned, laid}
+use Rattle.repository.specs.Listed.{fails, some, among, unseen, distinct, indexed, inRange, under, inPlace, stopList}
 use Rattle.repository.specs.Listed.{station, stations, child, ofStation, childrenName, childrenAll, children}
 use Rattle.repository.specs.Listed.{routeStops, routeTrips, timeEach, tripTimes, call, later, ascending, calls, called}
 use Rattle.repository.specs.Listed.{calledAlong, callsHold, callsRise, callsAll, stopRoutes, running, passes, servedMark}
-use Rattle.repository.specs.Listed.{served, transfer, transfers, walk, walks, areaOnce, areasOnce, areasListed}
-use Rattle.repository.specs.Listed.{framed, listed}
+use Rattle.repository.specs.Listed.{served, transfer, transfers, walkIn, walks, areaOnce, areasOnce, areasListed}
+use Rattle.repository.specs.Listed.{framed, wellListed}
 
 -- Stops 0 to 5, of which 5 is the station of 0 and 1. Route 0: stops 0, 1, 2, two trips. Route 1: stops 3, 4, one trip.
 -- Route 2: stops 2, 3, 2, no trip. A transfer from 2 to 3, a walk from 3 to 2. Area 0: stops 5 and 2. Area 1: none.
@@ -42,16 +42,16 @@ image =
     5 ∷ 2 ∷ []
 
 image-laid : laid image ≡ true
-unfolding image laid headed sized limited started starting positioned every all size sec count
+unfolding image laid headed wellSized limited wellStarted startsSection positioned every all size sec count
 image-laid = refl
 
 -- no rule is broken
 unfoldable kept : Bool
-kept = listed image
+kept = wellListed image
 
 -- the word at a place of the image as another number
 unfoldable changed : ℕ → ℕ → Bool
-changed i v = listed (set image i v)
+changed i v = wellListed (set image i v)
 
 unfoldable broken : List Bool
 broken =
@@ -93,5 +93,5 @@ broken =
     changed 137 6 ∷ []
 
 image-listed : (kept ≡ true) × (broken ≡ replicate 18 false)
-unfolding kept broken changed image every all size sec count fails some among fresh distinct indexed inRange under inPlace stopList station stations child ofStation childrenName childrenAll children routeStops routeTrips timeEach tripTimes call later ascending calls called calledAlong callsHold callsRise callsAll stopRoutes running passes servedMark served transfer transfers walk walks areaOnce areasOnce areasListed framed listed
+unfolding kept broken changed image every all size sec count fails some among unseen distinct indexed inRange under inPlace stopList station stations child ofStation childrenName childrenAll children routeStops routeTrips timeEach tripTimes call later ascending calls called calledAlong callsHold callsRise callsAll stopRoutes running passes servedMark served transfer transfers walkIn walks areaOnce areasOnce areasListed framed wellListed
 image-listed = (refl, refl)

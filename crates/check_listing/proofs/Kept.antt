@@ -18,8 +18,8 @@ use Rattle.repository.specs.Laid.{Laid}
 use Rattle.repository.specs.Listed.{among, inPlace, stopList, station, stations, child, ofStation, childrenName}
 use Rattle.repository.specs.Listed.{childrenAll, children, routeStops, routeTrips, timeEach, tripTimes, call, later}
 use Rattle.repository.specs.Listed.{ascending, called, calledAlong, callsHold, callsRise, callsAll, stopRoutes}
-use Rattle.repository.specs.Listed.{servedMark, served, transfer, transfers, walk, walks, areaOnce, areasOnce}
-use Rattle.repository.specs.Listed.{areasListed, framed, listed}
+use Rattle.repository.specs.Listed.{servedMark, served, transfer, transfers, walkIn, walks, areaOnce, areasOnce}
+use Rattle.repository.specs.Listed.{areasListed, framed, wellListed}
 use Rattle.repository.specs.Accepted.{Listed}
 use Rattle.repository.proofs.All.{all-so}
 use Rattle.check_calls.proofs.Ranges.{some-so}
@@ -118,8 +118,8 @@ module _ {w : List ℕ} (l : Laid w) (h : Listed w) where
       (λ s j g u. rw (eq-eqb (transferFrom w j) s (h .transfer-from s j g u)) (lt-ltb _ _ (h .transfer-to s j g u)))
 
   walks-whole : walks w ≡ true
-  unfolding walks walk
-  walks-whole = each-so (walk w) (rows w WALKS WALK-WORDS) (λ j g. lt-ltb _ _ (h .walk-to j g))
+  unfolding walks walkIn
+  walks-whole = each-so (walkIn w) (rows w WALKS WALK-WORDS) (λ j g. lt-ltb _ _ (h .walk-to j g))
 
   areas-whole : areasListed w ≡ true
   unfolding areasListed areasOnce areaOnce
@@ -130,8 +130,8 @@ module _ {w : List ℕ} (l : Laid w) (h : Listed w) where
       distinct-so w AREA-STOPS (sec w AREA-STARTS a) (sec w AREA-STARTS (a + 1))
       (λ i j from k to. h .area-once a i j g (record { from = from; to = omega arith }) k to)))
 
-  pub listed-so : listed w ≡ true
-  unfolding listed framed
+  pub listed-so : wellListed w ≡ true
+  unfolding wellListed framed
   listed-so =
       six-so (framed w) (stopRoutes w) (served w) (transfers w) (walks w) (areasListed w)
       (record {

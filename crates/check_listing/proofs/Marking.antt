@@ -14,15 +14,15 @@ use Rattle.base.proofs.All.{so-start, so-on, so-fails, so-passes}
 use Rattle.marks.specs.Marks.{marked, withMark, Stand}
 use Rattle.marks.proofs.Stand.{stand-more}
 use Rattle.repository.specs.Sections.{size, sec, CHILDREN}
-use Rattle.repository.specs.Listed.{among, fresh, distinct}
-use Rattle.check_listing.specs.Fitting.{Fitting, Unmarked, Marks, markedOn, markedBy}
+use Rattle.repository.specs.Listed.{among, unseen, distinct}
+use Rattle.check_listing.specs.Fitting.{Fitting, Unmarked, JustMarked, markedOn, markedBy}
 use Rattle.check_calls.proofs.Ranges.{some-none, some-more}
 
 -- the words a, .., i - 1 are distinct, and they are marked; the rest leads where all lead from the marks ws₀
 pub record Marking (w : List ℕ) (k a b : ℕ) (ws₀ ws : List ℕ) (i : ℕ) : Type 0 where
   pub from : a ≤ i
   pub to : i ≤ b
-  pub so : So (fresh w k a) a b i
+  pub so : So (unseen w k a) a b i
   pub stand : Stand ws (among w k a i)
   pub rest : markedOn w k (b - i) i ws ≡ markedBy w k a b ws₀
 
@@ -53,7 +53,7 @@ module _ {w : List ℕ} {k a b : ℕ} where
       known = g ∙ h .stand .agree s mark-room ∙ ap (among w k a i) e
 
       pub marked-twice : seen ≡ true → false ≡ distinct w k a b
-      unfolding distinct fresh
+      unfolding distinct unseen
       marked-twice t = sym (so-fails (h .so) l (rw (← known, t)))
 
       one-more : b - i ≡ suc (b - suc i)
@@ -67,7 +67,7 @@ module _ {w : List ℕ} {k a b : ℕ} where
       left-twice t = rw (one-more, here true t) at (h .rest)
 
       pub marking-on : {vs : List ℕ} → seen ≡ false → vs ≡ withMark ws s → Marking w k a b ws₀ vs (i + 1)
-      unfolding fresh among markedOn
+      unfolding unseen among markedOn
       marking-on t q = record {
         from = omega (arith, h .from);
         to = omega arith;
@@ -91,16 +91,16 @@ module _ {w : List ℕ} {k a b : ℕ} where
     unfolding markedOn
     left-all = let none : b - i ≡ 0 = omega arith in rw none at (h .rest)
 
-    pub marks-stand : Marks true ws w k a b
+    pub marks-stand : JustMarked true ws w k a b
     marks-stand =
         let to = h .to in
         let end : i ≡ b = omega arith in
         record { stand = λ e. rw end at (h .stand) }
 
 -- an answer of no says nothing here: `markedBy` says which marks are left
-pub marks-none : {ws w : List ℕ} {k a b : ℕ} → Marks false ws w k a b
+pub marks-none : {ws w : List ℕ} {k a b : ℕ} → JustMarked false ws w k a b
 marks-none = record { stand = λ e. absurd (true≢false (sym e)) }
 
-pub children-marked : {ws w : List ℕ} {n : ℕ} {ok : Bool} → Marks ok ws w CHILDREN 0 n → not ok ≡ false → n ≡ size w CHILDREN
+pub children-marked : {ws w : List ℕ} {n : ℕ} {ok : Bool} → JustMarked ok ws w CHILDREN 0 n → not ok ≡ false → n ≡ size w CHILDREN
     → Stand ws (among w CHILDREN 0 (size w CHILDREN))
 children-marked {ok = ok} h t e = rw e at (h .stand (not-false ok t))

@@ -9,7 +9,7 @@ use Rattle.repository.specs.Sections.{size, sec, stops, trips, CHILDREN, ROUTE-
 use Rattle.repository.specs.Sections.{AREA-STOPS}
 use Rattle.repository.specs.Listed.{inRange, distinct, childrenName, childrenAll, children, routeStops, routeTrips}
 use Rattle.repository.specs.Listed.{tripTimes, stopList, stations, framed, callsHold, callsRise, callsAll}
-use Rattle.repository.specs.Listed.{stopRoutes, served, transfers, walks, areaOnce, areasOnce, areasListed, listed}
+use Rattle.repository.specs.Listed.{stopRoutes, served, transfers, walks, areaOnce, areasOnce, areasListed, wellListed}
 
 module _ (w : List ℕ) {a : Bool} (ea : a ≡ childrenName w) where
   pub children-misnamed : not a ≡ true → false ≡ children w
@@ -90,34 +90,34 @@ module _ (w : List ℕ) {a : Bool} (ea : a ≡ stopList w) where
               (rw (← ed, not-false d td, ← ee, not-false e te) ef)
 
 module _ (w : List ℕ) {a : Bool} (ea : a ≡ framed w) where
-  pub no-frame : not a ≡ true → false ≡ listed w
-  unfolding listed
+  pub no-frame : not a ≡ true → false ≡ wellListed w
+  unfolding wellListed
   no-frame t = rw (← ea, not-true a t)
 
   module _ (ta : not a ≡ false) {b : Bool} (eb : b ≡ stopRoutes w) where
-    pub no-stop-route : not b ≡ true → false ≡ listed w
-    unfolding listed
+    pub no-stop-route : not b ≡ true → false ≡ wellListed w
+    unfolding wellListed
     no-stop-route t = rw (← ea, not-false a ta, ← eb, not-true b t)
 
     module _ (tb : not b ≡ false) {c : Bool} (ec : c ≡ served w) where
-      pub no-served-mark : not c ≡ true → false ≡ listed w
-      unfolding listed
+      pub no-served-mark : not c ≡ true → false ≡ wellListed w
+      unfolding wellListed
       no-served-mark t = rw (← ea, not-false a ta, ← eb, not-false b tb, ← ec, not-true c t)
 
       module _ (tc : not c ≡ false) {d : Bool} (ed : d ≡ transfers w) where
-        pub no-transfer : not d ≡ true → false ≡ listed w
-        unfolding listed
+        pub no-transfer : not d ≡ true → false ≡ wellListed w
+        unfolding wellListed
         no-transfer t = rw (← ea, not-false a ta, ← eb, not-false b tb, ← ec, not-false c tc, ← ed, not-true d t)
 
         module _ (td : not d ≡ false) {e : Bool} (ee : e ≡ walks w) where
-          pub no-walk : not e ≡ true → false ≡ listed w
-          unfolding listed
+          pub no-walk : not e ≡ true → false ≡ wellListed w
+          unfolding wellListed
           no-walk t =
               rw (← ea, not-false a ta, ← eb, not-false b tb, ← ec, not-false c tc)
               (rw (← ed, not-false d td, ← ee, not-true e t))
 
-          pub listed-whole : {f : Bool} → not e ≡ false → f ≡ areasListed w → f ≡ listed w
-          unfolding listed
+          pub listed-whole : {f : Bool} → not e ≡ false → f ≡ areasListed w → f ≡ wellListed w
+          unfolding wellListed
           listed-whole te ef =
               rw (← ea, not-false a ta, ← eb, not-false b tb, ← ec, not-false c tc)
               (rw (← ed, not-false d td, ← ee, not-false e te) ef)

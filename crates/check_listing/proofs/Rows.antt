@@ -13,7 +13,7 @@ use Rattle.repository.specs.Sections.{size, sec, stops, STOP-LIST, STATIONS, CH
 use Rattle.repository.specs.Sections.{TIME-STARTS, transferFrom, transferTo, walkTo}
 use Rattle.repository.specs.NetOf.{count}
 use Rattle.marks.specs.Marks.{marked, Stand}
-use Rattle.repository.specs.Listed.{among, indexed, inPlace, station, child, ofStation, timeEach, transfer, walk}
+use Rattle.repository.specs.Listed.{among, indexed, inPlace, station, child, ofStation, timeEach, transfer, walkIn}
 
 module _ (w : List ℕ) (k n i : ℕ) {r : ℕ} (e : r ≡ sec w k i) where
   pub index-right : r < n → indexed w k n i ≡ true
@@ -83,10 +83,10 @@ module _ (w : List ℕ) (s j : ℕ) {u : ℕ} (e : u ≡ transferFrom w j) where
   transfer-leads h f g = rw (← e, eq-eqb u s h, ← f, ← g)
 
 module _ (w : List ℕ) (j : ℕ) {r n : ℕ} (e : r ≡ walkTo w j) (f : n ≡ size w STOP-LIST) where
-  pub walk-right : r < n → walk w j ≡ true
-  unfolding walk
+  pub walk-right : r < n → walkIn w j ≡ true
+  unfolding walkIn
   walk-right h = rw (← e, ← f) (lt-ltb r n h)
 
-  pub walk-wrong : n ≤ r → walk w j ≡ false
-  unfolding walk
+  pub walk-wrong : n ≤ r → walkIn w j ≡ false
+  unfolding walkIn
   walk-wrong h = rw (← e, ← f) (le-ltb r n h)

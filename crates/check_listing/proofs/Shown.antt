@@ -19,8 +19,8 @@ use Rattle.repository.specs.Laid.{Laid}
 use Rattle.repository.specs.Listed.{among, distinct, inRange, inPlace, stopList, station, stations, child}
 use Rattle.repository.specs.Listed.{ofStation, childrenName, childrenAll, children, routeStops, routeTrips}
 use Rattle.repository.specs.Listed.{timeEach, tripTimes, call, later, ascending, called, calledAlong, callsHold}
-use Rattle.repository.specs.Listed.{callsRise, callsAll, stopRoutes, servedMark, served, transfer, transfers, walk}
-use Rattle.repository.specs.Listed.{walks, areaOnce, areasOnce, areasListed, framed, listed}
+use Rattle.repository.specs.Listed.{callsRise, callsAll, stopRoutes, servedMark, served, transfer, transfers, walkIn}
+use Rattle.repository.specs.Listed.{walks, areaOnce, areasOnce, areasListed, framed, wellListed}
 use Rattle.repository.specs.Accepted.{Under, Called, Listed}
 use Rattle.check_calls.proofs.Ranges.{some-shown}
 use Rattle.check_listing.proofs.Rows.{child-shown}
@@ -29,9 +29,9 @@ use Rattle.check_calls.proofs.Facts.{index-shown, each-shown, under-shown, dist
 use Rattle.check_calls.proofs.CallRows.{Call, call-shown, called-shown, mark-set, mark-unset}
 
 -- ---- from the test to the facts
-module _ {w : List ℕ} (l : Laid w) (passed : listed w ≡ true) where
+module _ {w : List ℕ} (l : Laid w) (passed : wellListed w ≡ true) where
   whole : Six (framed w) (stopRoutes w) (served w) (transfers w) (walks w) (areasListed w)
-  unfolding listed
+  unfolding wellListed
   whole = six-shown (framed w) (stopRoutes w) (served w) (transfers w) (walks w) (areasListed w) passed
 
   frame : Six (stopList w) (stations w) (children w) (routeStops w) (routeTrips w) (tripTimes w)
@@ -127,8 +127,8 @@ module _ {w : List ℕ} (l : Laid w) (passed : listed w ≡ true) where
       (eqb-true _ _ (and-left a b e), ltb-true _ _ (and-right a b e))
 
   walk-row : (j : ℕ) → j < rows w WALKS WALK-WORDS → walkTo w j < stops w
-  unfolding walks walk
-  walk-row j h = ltb-true _ _ (each-shown (walk w) (rows w WALKS WALK-WORDS) (whole .fifth) j h)
+  unfolding walks walkIn
+  walk-row j h = ltb-true _ _ (each-shown (walkIn w) (rows w WALKS WALK-WORDS) (whole .fifth) j h)
 
   area-row : (i : ℕ) → i < size w AREA-STOPS → sec w AREA-STOPS i < stops w
   unfolding areasListed

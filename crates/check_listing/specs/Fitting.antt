@@ -29,5 +29,5 @@ unfoldable pub markedBy : List ℕ → ℕ → ℕ → ℕ → List ℕ → List
 markedBy w k a b ws = markedOn w k (b - a) a ws
 
 -- where the answer is yes, just the words a, .., b - 1 are marked
-pub record Marks (ok : Bool) (ws w : List ℕ) (k a b : ℕ) : Type 0 where
+pub record JustMarked (ok : Bool) (ws w : List ℕ) (k a b : ℕ) : Type 0 where
   pub stand : ok ≡ true → Stand ws (among w k a b)

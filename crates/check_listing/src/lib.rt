@@ -1,7 +1,7 @@
 // Number 2 of the table check: whether every index is in range and every list keeps the listing rules.
 ghost use mathlib.Core.Path.{_≡_};
 ghost use Rattle.repository.specs.Laid.{Laid};
-ghost use Rattle.repository.specs.Listed.{framed, listed};
+ghost use Rattle.repository.specs.Listed.{framed, wellListed};
 
 mod areas;
 mod children;
@@ -37,7 +37,7 @@ fn framed_ok(tables: &[u32]) -> bool
 // Whether laid tables have no number 2.
 pub fn listing_ok(tables: &[u32]) -> bool
     requires { ⌜ Laid (now tables) ⌝ }
-    ensures { λ ok. ⌜ ok ≡ listed (now (tables .entry)) ⌝ }
+    ensures { λ ok. ⌜ ok ≡ wellListed (now (tables .entry)) ⌝ }
 {
     if !framed_ok(tables) {
         return false;

@@ -14,13 +14,13 @@ use Rattle.repository.specs.Sections.{WALK-STARTS, WALKS, ROUTE-STOP-STARTS, RO
 use Rattle.repository.specs.Sections.{ROUTE-TRIPS, TIME-STARTS, TIMES, AREA-STARTS, AREA-STOPS, SECTIONS, HEADER}
 use Rattle.repository.specs.Sections.{CALL-WORDS, TRANSFER-WORDS, WALK-WORDS, TIME-WORDS}
 use Rattle.repository.specs.NetOf.{count}
-use Rattle.repository.specs.Laid.{headed, sized, limited, starting, started, positioned, laid, Starts, Laid}
-use Rattle.check_shape.specs.Shape.{Headed, routeFits}
+use Rattle.repository.specs.Laid.{headed, wellSized, limited, startsSection, wellStarted, positioned, laid, Starts, Laid}
+use Rattle.check_shape.specs.Shape.{routeFits}
 use Rattle.repository.proofs.All.{all-so}
 
 module _ (w : List ℕ) (k n m : ℕ) where
-  starting-so : Starts w k n m → starting w k n m ≡ true
-  unfolding starting
+  starting-so : Starts w k n m → startsSection w k n m ≡ true
+  unfolding startsSection
   starting-so h =
       rw (
         eq-eqb (sec w k 0) 0 (h .first),
@@ -39,8 +39,8 @@ module _ {w : List ℕ} (h : Laid w) where
         all-so (λ k. leb (start w k) (start w (k + 1))) 0 SECTIONS (λ k a b. le-leb _ _ (h .rise k b)),
       )
 
-  sized-so : sized w ≡ true
-  unfolding sized
+  sized-so : wellSized w ≡ true
+  unfolding wellSized
   sized-so =
       rw (
         eq-eqb (size w STATIONS) (stops w) (h .stations-size),
@@ -74,8 +74,8 @@ module _ {w : List ℕ} (h : Laid w) where
         le-leb (size w AREA-STOPS) MOST-AREA-ENTRIES (h .entries-limit),
       )
 
-  started-so : started w ≡ true
-  unfolding started
+  started-so : wellStarted w ≡ true
+  unfolding wellStarted
   started-so =
       rw (
         starting-so w CHILD-STARTS (stops w) (size w CHILDREN) (h .child-starts),
@@ -97,6 +97,3 @@ module _ {w : List ℕ} (h : Laid w) where
   pub laid-so : laid w ≡ true
   unfolding laid
   laid-so = rw (headed-so, sized-so, limited-so, started-so, positioned-so)
-
-  pub laid-headed : Headed w
-  laid-headed = record { head = h .head; last = h .last; rise = h .rise }

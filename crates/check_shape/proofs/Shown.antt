@@ -17,7 +17,7 @@ use Rattle.repository.specs.Sections.{WALK-STARTS, WALKS, ROUTE-STOP-STARTS, RO
 use Rattle.repository.specs.Sections.{ROUTE-TRIPS, TIME-STARTS, TIMES, AREA-STARTS, AREA-STOPS, SECTIONS, HEADER}
 use Rattle.repository.specs.Sections.{CALL-WORDS, TRANSFER-WORDS, WALK-WORDS, TIME-WORDS}
 use Rattle.repository.specs.NetOf.{count}
-use Rattle.repository.specs.Laid.{headed, sized, limited, starting, started, positioned, laid, Starts, Laid}
+use Rattle.repository.specs.Laid.{headed, wellSized, limited, startsSection, wellStarted, positioned, laid, Starts, Laid}
 use Rattle.check_shape.specs.Shape.{Headed, Roomy, routeFits}
 use Rattle.check_shape.proofs.Joined.{joined-at}
 
@@ -46,32 +46,32 @@ module _ (w : List ℕ) where
 
   abbrev startTests : List Bool
   startTests =
-      starting w CHILD-STARTS (stops w) (size w CHILDREN) ∷ starting w CALL-STARTS (stops w) (rows w CALLS CALL-WORDS)
-      ∷ starting w TRANSFER-STARTS (stops w) (rows w TRANSFERS TRANSFER-WORDS)
-      ∷ starting w WALK-STARTS (stops w) (rows w WALKS WALK-WORDS) ∷ starting w ROUTE-STOP-STARTS (routes w) (size w ROUTE-STOPS)
-      ∷ starting w ROUTE-TRIP-STARTS (routes w) (size w ROUTE-TRIPS)
-      ∷ starting w TIME-STARTS (trips w) (rows w TIMES TIME-WORDS) ∷ starting w AREA-STARTS (areas w) (size w AREA-STOPS) ∷ []
+      startsSection w CHILD-STARTS (stops w) (size w CHILDREN) ∷ startsSection w CALL-STARTS (stops w) (rows w CALLS CALL-WORDS)
+      ∷ startsSection w TRANSFER-STARTS (stops w) (rows w TRANSFERS TRANSFER-WORDS)
+      ∷ startsSection w WALK-STARTS (stops w) (rows w WALKS WALK-WORDS) ∷ startsSection w ROUTE-STOP-STARTS (routes w) (size w ROUTE-STOPS)
+      ∷ startsSection w ROUTE-TRIP-STARTS (routes w) (size w ROUTE-TRIPS)
+      ∷ startsSection w TIME-STARTS (trips w) (rows w TIMES TIME-WORDS) ∷ startsSection w AREA-STARTS (areas w) (size w AREA-STOPS) ∷ []
 
   -- each part's tests pass where the part does
   headed-at : headed w ≡ true → (i : ℕ) → getD headTests i true ≡ true
   unfolding headed
   headed-at e = joined-at true headTests e
 
-  sized-at : sized w ≡ true → (i : ℕ) → getD sizeTests i true ≡ true
-  unfolding sized
+  sized-at : wellSized w ≡ true → (i : ℕ) → getD sizeTests i true ≡ true
+  unfolding wellSized
   sized-at e = joined-at true sizeTests e
 
   limited-at : limited w ≡ true → (i : ℕ) → getD limitTests i true ≡ true
   unfolding limited
   limited-at e = joined-at true limitTests e
 
-  started-at : started w ≡ true → (i : ℕ) → getD startTests i true ≡ true
-  unfolding started
+  started-at : wellStarted w ≡ true → (i : ℕ) → getD startTests i true ≡ true
+  unfolding wellStarted
   started-at e = joined-at true startTests e
 
-  laid-at : laid w ≡ true → (i : ℕ) → getD (headed w ∷ sized w ∷ limited w ∷ started w ∷ positioned w ∷ []) i true ≡ true
+  laid-at : laid w ≡ true → (i : ℕ) → getD (headed w ∷ wellSized w ∷ limited w ∷ wellStarted w ∷ positioned w ∷ []) i true ≡ true
   unfolding laid
-  laid-at e = joined-at true (headed w ∷ sized w ∷ limited w ∷ started w ∷ positioned w ∷ []) e
+  laid-at e = joined-at true (headed w ∷ wellSized w ∷ limited w ∷ wellStarted w ∷ positioned w ∷ []) e
 
   rising-at : headed w ≡ true → (k : ℕ) → k < SECTIONS → start w k ≤ start w (k + 1)
   rising-at e k g = leb-true _ _ (all-at (λ k. leb (start w k) (start w (k + 1))) 0 SECTIONS (headed-at e 3) k (omega arith) g)
@@ -88,11 +88,11 @@ module _ (w : List ℕ) where
     abbrev startingTests : List Bool
     startingTests = eqb (sec w k 0) 0 ∷ eqb (sec w k n) m ∷ all (λ i. leb (sec w k i) (sec w k (i + 1))) 0 n ∷ []
 
-    starting-at : starting w k n m ≡ true → (i : ℕ) → getD startingTests i true ≡ true
-    unfolding starting
+    starting-at : startsSection w k n m ≡ true → (i : ℕ) → getD startingTests i true ≡ true
+    unfolding startsSection
     starting-at e = joined-at true startingTests e
 
-    starting-shown : starting w k n m ≡ true → Starts w k n m
+    starting-shown : startsSection w k n m ≡ true → Starts w k n m
     starting-shown e = record {
       first = eqb-true _ _ (starting-at e 0);
       last = eqb-true _ _ (starting-at e 1);
@@ -106,7 +106,7 @@ headed-known w e t =
     let h = sym e ∙ t in
     record { head = leb-true _ _ (headed-at w h 0); last = eqb-true _ _ (headed-at w h 2); rise = rising-at w h }
 
-pub sized-known : (w : List ℕ) {b : Bool} → b ≡ sized w → b ≡ true → Roomy w
+pub sized-known : (w : List ℕ) {b : Bool} → b ≡ wellSized w → b ≡ true → Roomy w
 sized-known w e t =
     let at = sized-at w (sym e ∙ t) in
     let child-size : size w CHILD-STARTS ≡ stops w + 1 = eqb-true _ _ (at 1) in

@@ -15,7 +15,7 @@ use Rattle.repository.specs.Sections.{CALLS, SERVED, TRANSFER-STARTS, TRANSFERS
 use Rattle.repository.specs.Sections.{ROUTE-STOPS, ROUTE-TRIP-STARTS, ROUTE-TRIPS, TIME-STARTS, TIMES, AREA-STARTS}
 use Rattle.repository.specs.Sections.{AREA-STOPS, SECTIONS, HEADER, CALL-WORDS, TRANSFER-WORDS, WALK-WORDS, TIME-WORDS}
 use Rattle.repository.specs.NetOf.{count}
-use Rattle.repository.specs.Laid.{headed, sized, limited, starting, started, positioned, laid}
+use Rattle.repository.specs.Laid.{headed, wellSized, limited, startsSection, wellStarted, positioned, laid}
 use Rattle.check_shape.specs.Shape.{noFall, routeFits, stopSized}
 
 module _ (w : List ℕ) (o i : ℕ) where
@@ -57,8 +57,8 @@ pub sized-is : (w : List ℕ) {b : Bool} {r trip-starts time-starts route-trips 
     → calls ≡ size w CALLS → transfers ≡ size w TRANSFERS → walks ≡ size w WALKS → times ≡ size w TIMES
     → b && leb 1 r && eqb trip-starts r && leb 1 time-starts && eqb route-trips t && leb 1 area-starts
     && eqb (calls % CALL-WORDS) 0 && eqb (transfers % TRANSFER-WORDS) 0 && eqb (walks % WALK-WORDS) 0
-    && eqb (times % TIME-WORDS) 0 ≡ sized w
-unfolding sized stopSized
+    && eqb (times % TIME-WORDS) 0 ≡ wellSized w
+unfolding wellSized stopSized
 sized-is w eb er e13 e15 e14 et e17 e5 e8 e10 e16 = rw (eb, er, e13, e15, e14, et, e17, e5, e8, e10, e16)
 
 pub limited-is : (w : List ℕ) {s r t times transfers walks a named : ℕ} → s ≡ size w STOP-LIST → r ≡ size w ROUTE-STOP-STARTS - 1
@@ -77,18 +77,20 @@ route-fits-is w r e = rw e
 -- a starts section
 pub starting-is : (w : List ℕ) (k n wide : ℕ) {a b z o : ℕ} {t : Bool} → a ≡ sec w k 0 → b ≡ sec w k n
     → z ≡ size w (k + 1) → o ≡ start w k → t ≡ all (noFall w o) 0 n
-    → eqb a 0 && eqb b (z / wide) && t ≡ starting w k n (size w (k + 1) / wide)
-unfolding starting sec noFall
+    → eqb a 0 && eqb b (z / wide) && t ≡ startsSection w k n (size w (k + 1) / wide)
+unfolding startsSection sec noFall
 starting-is w k n wide ea eb ez eo et = rw (ea, eb, ez, et, eo)
 
 pub started-is : (w : List ℕ) {s r t a : ℕ} {b2 b4 b7 b9 b11 b13 b15 b17 : Bool} → s ≡ size w STOP-LIST
     → r ≡ size w ROUTE-STOP-STARTS - 1 → t ≡ size w TIME-STARTS - 1 → a ≡ size w AREA-STARTS - 1
-    → b2 ≡ starting w CHILD-STARTS s (size w CHILDREN / 1) → b4 ≡ starting w CALL-STARTS s (size w CALLS / CALL-WORDS)
-    → b7 ≡ starting w TRANSFER-STARTS s (size w TRANSFERS / TRANSFER-WORDS) → b9 ≡ starting w WALK-STARTS s (size w WALKS / WALK-WORDS)
-    → b11 ≡ starting w ROUTE-STOP-STARTS r (size w ROUTE-STOPS / 1) → b13 ≡ starting w ROUTE-TRIP-STARTS r (size w ROUTE-TRIPS / 1)
-    → b15 ≡ starting w TIME-STARTS t (size w TIMES / TIME-WORDS) → b17 ≡ starting w AREA-STARTS a (size w AREA-STOPS / 1)
-    → b2 && b4 && b7 && b9 && b11 && b13 && b15 && b17 ≡ started w
-unfolding started
+    → b2 ≡ startsSection w CHILD-STARTS s (size w CHILDREN / 1) → b4 ≡ startsSection w CALL-STARTS s (size w CALLS / CALL-WORDS)
+    → b7 ≡ startsSection w TRANSFER-STARTS s (size w TRANSFERS / TRANSFER-WORDS)
+    → b9 ≡ startsSection w WALK-STARTS s (size w WALKS / WALK-WORDS)
+    → b11 ≡ startsSection w ROUTE-STOP-STARTS r (size w ROUTE-STOPS / 1)
+    → b13 ≡ startsSection w ROUTE-TRIP-STARTS r (size w ROUTE-TRIPS / 1)
+    → b15 ≡ startsSection w TIME-STARTS t (size w TIMES / TIME-WORDS) → b17 ≡ startsSection w AREA-STARTS a (size w AREA-STOPS / 1)
+    → b2 && b4 && b7 && b9 && b11 && b13 && b15 && b17 ≡ wellStarted w
+unfolding wellStarted
 started-is w es er et ea e2 e4 e7 e9 e11 e13 e15 e17 =
     rw (
       e2,
@@ -115,11 +117,11 @@ module _ (w : List ℕ) {h : Bool} (eh : h ≡ headed w) where
   unfolding laid
   laid-unheaded e = rw (← eh, e)
 
-  module _ {s : Bool} (th : h ≡ true) (es : s ≡ sized w) where
+  module _ {s : Bool} (th : h ≡ true) (es : s ≡ wellSized w) where
     pub laid-unsized : s ≡ false → false ≡ laid w
     unfolding laid
     laid-unsized e = rw (← eh, ← es, th, e)
 
-    pub laid-is : {l t p : Bool} → s ≡ true → l ≡ limited w → t ≡ started w → p ≡ positioned w → l && t && p ≡ laid w
+    pub laid-is : {l t p : Bool} → s ≡ true → l ≡ limited w → t ≡ wellStarted w → p ≡ positioned w → l && t && p ≡ laid w
     unfolding laid
     laid-is e el et ep = rw (← eh, ← es, th, e, el, et, ep)

@@ -7,7 +7,7 @@ ghost use lib.ListN.{length};
 ghost use Rattle.base.specs.All.{all};
 ghost use Rattle.repository.specs.Sections.{size, ROUTE-STOP-STARTS, SECTIONS};
 ghost use Rattle.repository.specs.NetOf.{count};
-ghost use Rattle.repository.specs.Laid.{headed, sized, limited, starting, started, positioned, laid};
+ghost use Rattle.repository.specs.Laid.{headed, wellSized, limited, startsSection, wellStarted, positioned, laid};
 ghost use Rattle.check_shape.specs.Shape.{Headed, Roomy, noFall, routeFits, stopSized};
 use repository::limits;
 use repository::sections;
@@ -86,7 +86,7 @@ fn stop_sizes_ok(tables: &[u32]) -> bool
 // Whether each section has the words that the counts of stops, routes and trips ask for, and whole rows.
 fn sizes_ok(tables: &[u32]) -> bool
     requires { ⌜ Headed (now tables) ⌝ }
-    ensures { λ r. ⌜ r ≡ sized (now (tables .entry)) ⌝ }
+    ensures { λ r. ⌜ r ≡ wellSized (now (tables .entry)) ⌝ }
 {
     let r = size_of(tables, sections::ROUTE_STOP_STARTS);
     stop_sizes_ok(tables)
@@ -123,7 +123,7 @@ fn starts_ok(tables: &[u32], k: usize, n: usize, wide: usize) -> bool
     requires { ⌜ k + 1 < SECTIONS ⌝ }
     requires { ⌜ n < size (now tables) k ⌝ }
     requires { ⌜ 0 < wide ⌝ }
-    ensures { λ r. ⌜ r ≡ starting (now (tables .entry)) k n (size (now (tables .entry)) (k + 1) / wide) ⌝ }
+    ensures { λ r. ⌜ r ≡ startsSection (now (tables .entry)) k n (size (now (tables .entry)) (k + 1) / wide) ⌝ }
 {
     let first = words::word(tables, k, 0);
     let last = words::word(tables, k, n) as usize;
@@ -136,7 +136,7 @@ fn starts_ok(tables: &[u32], k: usize, n: usize, wide: usize) -> bool
 fn all_starts_ok(tables: &[u32]) -> bool
     requires { ⌜ Headed (now tables) ⌝ }
     requires { ⌜ Roomy (now tables) ⌝ }
-    ensures { λ r. ⌜ r ≡ started (now (tables .entry)) ⌝ }
+    ensures { λ r. ⌜ r ≡ wellStarted (now (tables .entry)) ⌝ }
 {
     let s = size_of(tables, sections::STOP_LIST);
     let r = entries(tables, sections::ROUTE_STOP_STARTS);

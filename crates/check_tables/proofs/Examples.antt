@@ -7,12 +7,12 @@ use lib.Ieee.{le, ofBits}
 use Rattle.base.specs.All.{every, all}
 use Rattle.repository.specs.Sections.{size, sec}
 use Rattle.repository.specs.NetOf.{count, netOf}
-use Rattle.repository.specs.Laid.{headed, sized, limited, starting, started, positioned, laid}
-use Rattle.repository.specs.Listed.{fails, some, among, fresh, distinct, indexed, inRange, under, inPlace, stopList}
+use Rattle.repository.specs.Laid.{headed, wellSized, limited, startsSection, wellStarted, positioned, laid}
+use Rattle.repository.specs.Listed.{fails, some, among, unseen, distinct, indexed, inRange, under, inPlace, stopList}
 use Rattle.repository.specs.Listed.{station, stations, child, ofStation, childrenName, childrenAll, children, routeStops}
 use Rattle.repository.specs.Listed.{routeTrips, timeEach, tripTimes, call, calls, later, ascending, called, calledAlong}
 use Rattle.repository.specs.Listed.{callsHold, callsRise, callsAll, stopRoutes, running, passes, servedMark, served}
-use Rattle.repository.specs.Listed.{transfer, transfers, walks, areaOnce, areasOnce, areasListed, framed, listed}
+use Rattle.repository.specs.Listed.{transfer, transfers, walks, areaOnce, areasOnce, areasListed, framed, wellListed}
 use Rattle.repository.specs.Checked.{walk, timely, timed, behind, ordered, measured, checkOf}
 use Rattle.repository.specs.Accepted.{Accepted}
 use Rattle.check_tables.proofs.Whole.{accepted-is}
@@ -66,8 +66,8 @@ numbers :
     checkOf N ∷ checkOf [] ∷ checkOf (set N 80 4) ∷ checkOf (set N 69 5) ∷ checkOf (set N 98 0) ∷ checkOf (set N 103 601)
     ∷ checkOf (set N 70 86401) ∷ checkOf (set N 71 2143289344) ∷ checkOf N9 ∷ []
     ≡ 0 ∷ 1 ∷ 1 ∷ 2 ∷ 3 ∷ 4 ∷ 5 ∷ 5 ∷ 0 ∷ []
-unfolding checkOf laid headed sized limited starting started positioned size sec count netOf all every listed
-    framed fails some among fresh distinct indexed inRange under inPlace stopList station stations child
+unfolding checkOf laid headed wellSized limited startsSection wellStarted positioned size sec count netOf all every wellListed
+    framed fails some among unseen distinct indexed inRange under inPlace stopList station stations child
     ofStation childrenName childrenAll children routeStops routeTrips timeEach tripTimes call calls
     later ascending called calledAlong callsHold callsRise callsAll stopRoutes running passes servedMark
     served transfer transfers walks areaOnce areasOnce areasListed walk timely timed behind ordered

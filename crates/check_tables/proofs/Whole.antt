@@ -8,7 +8,7 @@ use native.Mathlib.Omega.{arith}
 use Rattle.base.proofs.Choice.{split}
 use Rattle.repository.specs.NetOf.{netOf}
 use Rattle.repository.specs.Laid.{laid, Laid}
-use Rattle.repository.specs.Listed.{listed}
+use Rattle.repository.specs.Listed.{wellListed}
 use Rattle.repository.specs.Checked.{timed, ordered, measured, checkOf}
 use Rattle.repository.specs.Accepted.{Listed, Accepted}
 use Rattle.check_shape.proofs.Shown.{laid-shown}
@@ -32,7 +32,7 @@ module _ (w : List ℕ) {b : Bool} where
   pub laid-known : b ≡ laid w → b ≡ true → Laid w
   laid-known e t = laid-shown (sym e ∙ t)
 
-  pub listed-known : {c : Bool} → b ≡ laid w → b ≡ true → c ≡ listed w → c ≡ true → Listed w
+  pub listed-known : {c : Bool} → b ≡ laid w → b ≡ true → c ≡ wellListed w → c ≡ true → Listed w
   listed-known e t f u = listed-shown (laid-known e t) (sym f ∙ u)
 
 -- the number, by the test that fails first
@@ -41,7 +41,7 @@ module _ (w : List ℕ) {a : Bool} (ea : a ≡ laid w) where
   unfolding checkOf
   number-1 t = rw (← ea, t)
 
-  module _ (ta : a ≡ true) {b : Bool} (eb : b ≡ listed w) where
+  module _ (ta : a ≡ true) {b : Bool} (eb : b ≡ wellListed w) where
     pub number-2 : b ≡ false → 2 ≡ checkOf w
     unfolding checkOf
     number-2 t = rw (← ea, ta, ← eb, t)
@@ -72,7 +72,7 @@ said w =
     split (laid w)
     (λ ta.
     let l = laid-shown ta in
-    split (listed w)
+    split (wellListed w)
     (λ tb.
     let k = listed-shown l tb in
     split (timed (netOf w))
@@ -95,7 +95,7 @@ given zero w h =
     number-0 w refl (laid-so (h .laid)) refl (listed-so (h .laid) (h .listed)) refl (timed-so (netOf w) (h .timed)) refl
     (ordered-so (netOf w) (h .ordered)) refl (measured-so w (h .measured))
 given (suc zero) w h = number-1 w refl (not-passed (laid w) (λ t. h (laid-shown t)))
-given (suc (suc zero)) w (l, h) = number-2 w refl (laid-so l) refl (not-passed (listed w) (λ t. h (listed-shown l t)))
+given (suc (suc zero)) w (l, h) = number-2 w refl (laid-so l) refl (not-passed (wellListed w) (λ t. h (listed-shown l t)))
 given (suc (suc (suc zero))) w (l, k, h) =
     number-3 w refl (laid-so l) refl (listed-so l k) refl
     (not-passed (timed (netOf w)) (λ t. h (timed-shown (netOf w) t)))

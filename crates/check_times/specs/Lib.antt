@@ -1,2 +1,2 @@
 -- The definitions that the contracts of numbers 3 and 4 cite.
-pub mod Stands
+pub mod AtTrip

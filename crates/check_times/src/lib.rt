@@ -6,7 +6,7 @@ ghost use Rattle.repository.specs.Laid.{Laid};
 ghost use Rattle.repository.specs.Accepted.{Listed};
 ghost use Rattle.repository.specs.Rows.{timeRow, timeCount};
 ghost use Rattle.repository.specs.Checked.{timely, timed, ordered};
-ghost use Rattle.check_times.specs.Stands.{Stands};
+ghost use Rattle.check_times.specs.AtTrip.{AtTrip};
 use repository::limits;
 
 // When a trip arrives at a position, and when it departs from there.
@@ -29,7 +29,7 @@ fn row_of(tables: &[u32], r: u32, i: u32) -> u32
 }
 
 fn stop_time(tables: &[u32], r: u32, p: u32, i: u32) -> StopTime
-    requires { ⌜ Stands (now tables) r p i ⌝ }
+    requires { ⌜ AtTrip (now tables) r p i ⌝ }
     ensures { λ t. ⌜ t .arrival ≡ netOf (now (tables .entry)) .arrival (netOf (now (tables .entry)) .tripAt r i) p ⌝ }
     ensures { λ t. ⌜ t .departure ≡ netOf (now (tables .entry)) .departure (netOf (now (tables .entry)) .tripAt r i) p ⌝ }
 {
@@ -45,7 +45,7 @@ fn stop_time(tables: &[u32], r: u32, p: u32, i: u32) -> StopTime
 // Whether the trip keeps its time at position p, and comes to the next position not before it left. `end` is how many
 // positions the route has.
 fn time_ok(tables: &[u32], r: u32, p: u32, i: u32, end: u32) -> bool
-    requires { ⌜ Stands (now tables) r p i ⌝ }
+    requires { ⌜ AtTrip (now tables) r p i ⌝ }
     requires { ⌜ end ≡ netOf (now tables) .positions r ⌝ }
     ensures { λ ok. ⌜ ok ≡ timely (netOf (now (tables .entry))) r p i ⌝ }
 {

@@ -18,18 +18,18 @@ use Rattle.repository.specs.Sections.{transferBits, transferMetres, walk
 use Rattle.repository.specs.NetOf.{count, listOf, stationOf, netOf}
 use Rattle.repository.specs.Laid.{Laid}
 use Rattle.repository.specs.Accepted.{Accepted}
-use Rattle.repository.specs.Entries.{Entry, Part, Words}
+use Rattle.repository.specs.Entries.{Entry, Part, EntryWords}
 use Rattle.repository.specs.Rows.{Listing, calls, transfers, walks, startsOf, wideOf, rowCount, pastRow}
 use Rattle.repository.specs.Rows.{timeCount}
 use Rattle.repository.specs.Station.{stationIs}
 use Rattle.repository.proofs.Tabs.{tab-shift}
 use Rattle.repository.proofs.Rooms.{room, row-room, stop-of-route, trip-of-route, past-in}
 
-pub list-entry : {w : List ℕ} {k i : ℕ} → Words w k i → Entry w k i
+pub list-entry : {w : List ℕ} {k i : ℕ} → EntryWords w k i → Entry w k i
 list-entry l = l .entry
 
 -- word p under entry i, whose words are those of section k + 1
-list-room : {w : List ℕ} → Laid w → (k : ℕ) {i p : ℕ} → Words w k i → p < count w k i
+list-room : {w : List ℕ} → Laid w → (k : ℕ) {i p : ℕ} → EntryWords w k i → p < count w k i
     → start w (k + 1) + (sec w k i + p) < length w
 unfolding count
 list-room h k l m = room h (k + 1) (omega (arith, l .section)) (omega (arith, l .within))

@@ -9,7 +9,7 @@ use Rattle.repository.specs.Sections.{start, size, sec, rows, CHILD-STAR
 use Rattle.repository.specs.Sections.{TIME-STARTS, AREA-STARTS, SECTIONS}
 use Rattle.repository.specs.NetOf.{netOf}
 use Rattle.repository.specs.Laid.{Laid, Starts}
-use Rattle.repository.specs.Entries.{Entry, Words}
+use Rattle.repository.specs.Entries.{Entry, EntryWords}
 use Rattle.repository.specs.Rows.{Listing, calls, transfers, walks, startsOf, wideOf, rowCount, pastRow}
 use Rattle.repository.specs.Rows.{tripCount}
 
@@ -59,7 +59,7 @@ module _ {w : List ℕ} {k n m : ℕ} (s : Starts w k n m) where
   pub starts-entry : k < SECTIONS → size w k ≡ n + 1 → {i : ℕ} → i < n → Entry w k i
   starts-entry g e {i} l = record { section = g; next = omega arith; rise = s .rise i l }
 
-  pub starts-list : k + 1 < SECTIONS → size w k ≡ n + 1 → m ≡ size w (k + 1) → {i : ℕ} → i < n → Words w k i
+  pub starts-list : k + 1 < SECTIONS → size w k ≡ n + 1 → m ≡ size w (k + 1) → {i : ℕ} → i < n → EntryWords w k i
   starts-list g e f {i} l = record {
     entry = starts-entry (omega arith) e l;
     section = g;
@@ -67,19 +67,19 @@ module _ {w : List ℕ} {k n m : ℕ} (s : Starts w k n m) where
   }
 
 module _ {w : List ℕ} (h : Laid w) {i : ℕ} where
-  pub stop-of-route : i < netOf w .routes → Words w ROUTE-STOP-STARTS i
+  pub stop-of-route : i < netOf w .routes → EntryWords w ROUTE-STOP-STARTS i
   unfolding netOf
   stop-of-route = starts-list (h .route-stop-starts) (omega arith) (omega (arith, h .route-stop-starts-size)) refl
 
-  pub trip-of-route : i < netOf w .routes → Words w ROUTE-TRIP-STARTS i
+  pub trip-of-route : i < netOf w .routes → EntryWords w ROUTE-TRIP-STARTS i
   unfolding netOf
   trip-of-route = starts-list (h .route-trip-starts) (omega arith) (omega (arith, h .route-stop-starts-size, h .route-trip-starts-size)) refl
 
-  pub child-of-stop : i < netOf w .stops → Words w CHILD-STARTS i
+  pub child-of-stop : i < netOf w .stops → EntryWords w CHILD-STARTS i
   unfolding netOf
   child-of-stop = starts-list (h .child-starts) (omega arith) (h .child-starts-size) refl
 
-  pub stop-of-area : i < netOf w .areas → Words w AREA-STARTS i
+  pub stop-of-area : i < netOf w .areas → EntryWords w AREA-STARTS i
   unfolding netOf
   stop-of-area = starts-list (h .area-starts) (omega arith) (omega (arith, h .area-starts-size)) refl
 

@@ -12,7 +12,7 @@ use Rattle.repository.specs.Sections.{rows, TRANSFERS, WALKS, TRANSFER-W
 use Rattle.repository.specs.Sections.{transferMetres, walkMetres}
 use Rattle.repository.specs.NetOf.{netOf}
 use Rattle.repository.specs.Laid.{laid}
-use Rattle.repository.specs.Listed.{listed}
+use Rattle.repository.specs.Listed.{wellListed}
 
 -- a test of every trip, by its place, at every position of every route: "walks routes, then positions, then trips"
 unfoldable pub walk : Net → ℕ → (ℕ → ℕ → ℕ → Bool) → Bool
@@ -46,4 +46,4 @@ measured w =
     && all (λ j. stretch (walkMetres w j)) 0 (rows w WALKS WALK-WORDS)
 
 unfoldable pub checkOf : List ℕ → ℕ
-checkOf w = cond (laid w) (cond (listed w) (cond (timed (netOf w)) (cond (ordered (netOf w)) (cond (measured w) 0 5) 4) 3) 2) 1
+checkOf w = cond (laid w) (cond (wellListed w) (cond (timed (netOf w)) (cond (ordered (netOf w)) (cond (measured w) 0 5) 4) 3) 2) 1

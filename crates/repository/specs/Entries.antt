@@ -16,7 +16,7 @@ pub record Part (w : List ℕ) (k a b : ℕ) : Type 0 where
   pub within : b ≤ size w k
 
 -- an entry whose rows are words of section k + 1
-pub record Words (w : List ℕ) (k i : ℕ) : Type 0 where
+pub record EntryWords (w : List ℕ) (k i : ℕ) : Type 0 where
   pub entry : Entry w k i
   pub section : k + 1 < SECTIONS
   pub within : sec w k (i + 1) ≤ size w (k + 1)

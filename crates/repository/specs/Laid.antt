@@ -23,8 +23,8 @@ headed w =
     && all (λ k. leb (start w k) (start w (k + 1))) 0 SECTIONS
 
 -- each section has the words that the counts of stops, routes and trips ask for, and whole rows
-unfoldable pub sized : List ℕ → Bool
-sized w =
+unfoldable pub wellSized : List ℕ → Bool
+wellSized w =
     eqb (size w STATIONS) (stops w) && eqb (size w CHILD-STARTS) (stops w + 1) && eqb (size w CALL-STARTS) (stops w + 1)
     && eqb (size w SERVED) (stops w) && eqb (size w TRANSFER-STARTS) (stops w + 1) && eqb (size w WALK-STARTS) (stops w + 1)
     && leb 1 (size w ROUTE-STOP-STARTS) && eqb (size w ROUTE-TRIP-STARTS) (size w ROUTE-STOP-STARTS)
@@ -41,26 +41,26 @@ limited w =
     && leb (rows w WALKS WALK-WORDS) MOST-WALKS && leb (areas w) MOST-AREAS && leb (size w AREA-STOPS) MOST-AREA-ENTRIES
 
 -- section k is a starts section of n entries for a list of m rows: it "begins with 0, never falls and ends with the number of rows"
-unfoldable pub starting : List ℕ → ℕ → ℕ → ℕ → Bool
-starting w k n m = eqb (sec w k 0) 0 && eqb (sec w k n) m && all (λ i. leb (sec w k i) (sec w k (i + 1))) 0 n
+unfoldable pub startsSection : List ℕ → ℕ → ℕ → ℕ → Bool
+startsSection w k n m = eqb (sec w k 0) 0 && eqb (sec w k n) m && all (λ i. leb (sec w k i) (sec w k (i + 1))) 0 n
 
-unfoldable pub started : List ℕ → Bool
-started w =
-    starting w CHILD-STARTS (stops w) (size w CHILDREN)
-    && starting w CALL-STARTS (stops w) (rows w CALLS CALL-WORDS)
-    && starting w TRANSFER-STARTS (stops w) (rows w TRANSFERS TRANSFER-WORDS)
-    && starting w WALK-STARTS (stops w) (rows w WALKS WALK-WORDS)
-    && starting w ROUTE-STOP-STARTS (routes w) (size w ROUTE-STOPS)
-    && starting w ROUTE-TRIP-STARTS (routes w) (size w ROUTE-TRIPS)
-    && starting w TIME-STARTS (trips w) (rows w TIMES TIME-WORDS)
-    && starting w AREA-STARTS (areas w) (size w AREA-STOPS)
+unfoldable pub wellStarted : List ℕ → Bool
+wellStarted w =
+    startsSection w CHILD-STARTS (stops w) (size w CHILDREN)
+    && startsSection w CALL-STARTS (stops w) (rows w CALLS CALL-WORDS)
+    && startsSection w TRANSFER-STARTS (stops w) (rows w TRANSFERS TRANSFER-WORDS)
+    && startsSection w WALK-STARTS (stops w) (rows w WALKS WALK-WORDS)
+    && startsSection w ROUTE-STOP-STARTS (routes w) (size w ROUTE-STOPS)
+    && startsSection w ROUTE-TRIP-STARTS (routes w) (size w ROUTE-TRIPS)
+    && startsSection w TIME-STARTS (trips w) (rows w TIMES TIME-WORDS)
+    && startsSection w AREA-STARTS (areas w) (size w AREA-STOPS)
 
 -- no "route without a stop"; "128 positions in a route"
 unfoldable pub positioned : List ℕ → Bool
 positioned w = all (λ r. leb 1 (count w ROUTE-STOP-STARTS r) && leb (count w ROUTE-STOP-STARTS r) MOST-POSITIONS) 0 (routes w)
 
 unfoldable pub laid : List ℕ → Bool
-laid w = headed w && sized w && limited w && started w && positioned w
+laid w = headed w && wellSized w && limited w && wellStarted w && positioned w
 
 -- The same as facts
 

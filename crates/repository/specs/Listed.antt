@@ -26,12 +26,12 @@ unfoldable pub among : List ℕ → ℕ → ℕ → ℕ → ℕ → Bool
 among w k a b t = some (λ j. eqb (sec w k j) t) a b
 
 -- word i of section k is none of the words a, .., i - 1
-unfoldable pub fresh : List ℕ → ℕ → ℕ → ℕ → Bool
-fresh w k a i = cond (among w k a i (sec w k i)) false true
+unfoldable pub unseen : List ℕ → ℕ → ℕ → ℕ → Bool
+unseen w k a i = cond (among w k a i (sec w k i)) false true
 
 -- no two of the words a, .., b - 1 of section k are the same
 unfoldable pub distinct : List ℕ → ℕ → ℕ → ℕ → Bool
-distinct w k a b = all (fresh w k a) a b
+distinct w k a b = all (unseen w k a) a b
 
 -- word i of section k is an index below n
 unfoldable pub indexed : List ℕ → ℕ → ℕ → ℕ → Bool
@@ -152,11 +152,11 @@ transfer w s j = eqb (transferFrom w j) s && ltb (transferTo w j) (stops w)
 unfoldable pub transfers : List ℕ → Bool
 transfers w = all (under w TRANSFER-STARTS (transfer w)) 0 (stops w)
 
-unfoldable pub walk : List ℕ → ℕ → Bool
-walk w j = ltb (walkTo w j) (stops w)
+unfoldable pub walkIn : List ℕ → ℕ → Bool
+walkIn w j = ltb (walkTo w j) (stops w)
 
 unfoldable pub walks : List ℕ → Bool
-walks w = all (walk w) 0 (rows w WALKS WALK-WORDS)
+walks w = all (walkIn w) 0 (rows w WALKS WALK-WORDS)
 
 -- "An area names no stop twice"
 unfoldable pub areaOnce : List ℕ → ℕ → Bool
@@ -173,5 +173,5 @@ unfoldable pub framed : List ℕ → Bool
 framed w = stopList w && stations w && children w && routeStops w && routeTrips w && tripTimes w
 
 -- and those for what stands at stops
-unfoldable pub listed : List ℕ → Bool
-listed w = framed w && stopRoutes w && served w && transfers w && walks w && areasListed w
+unfoldable pub wellListed : List ℕ → Bool
+wellListed w = framed w && stopRoutes w && served w && transfers w && walks w && areasListed w

@@ -6,7 +6,7 @@ ghost use Rattle.base.specs.Tab.{tab};
 ghost use Rattle.repository.specs.Sections.{start, size, sec, routes, rows, ROUTE-STOP-STARTS, SECTIONS, stopOn};
 ghost use Rattle.repository.specs.NetOf.{count, listOf};
 ghost use Rattle.repository.specs.Laid.{Laid};
-ghost use Rattle.repository.specs.Entries.{Entry, Part, Words};
+ghost use Rattle.repository.specs.Entries.{Entry, Part, EntryWords};
 use crate::sections;
 
 // Where section k begins.
@@ -111,7 +111,7 @@ pub fn part(tables: &[u32], k: usize, a: u32, b: u32) -> &[u32]
 // The words of section k + 1 that stand under entry i of the starts section k.
 pub fn listing(tables: &[u32], k: usize, i: u32) -> &[u32]
     requires { ⌜ Laid (now tables) ⌝ }
-    requires { ⌜ Words (now tables) k i ⌝ }
+    requires { ⌜ EntryWords (now tables) k i ⌝ }
     ensures { λ q. ⌜ now q ≡ listOf (now (tables .entry)) k (sec (now (tables .entry)) (k + 1)) i ⌝ }
 {
     let a = row_from(tables, k, i);

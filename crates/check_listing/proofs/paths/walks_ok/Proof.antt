@@ -4,14 +4,14 @@ use Prim.Native.Nat.{_-_}
 use Rattle.base.specs.All.{So}
 use Rattle.base.proofs.All.{so-start}
 use Rattle.repository.specs.Sections.{rows, WALKS, WALK-WORDS}
-use Rattle.repository.specs.Listed.{walk, walks}
+use Rattle.repository.specs.Listed.{walkIn, walks}
 use Rattle.check_calls.proofs.Turns.{done, turn, fault}
 use Rattle.check_listing.proofs.Rows.{walk-right, walk-wrong}
 use Rattle.check_listing.proofs.paths.walks_ok.Statement.{statement}
 use Rattle.check_listing.proofs.paths.walks_ok.Tie as tie
 
 abbrev Inv-loop : tie.InvT-loop
-Inv-loop tables limit n j₀ j = So (walk tables) 0 (rows tables WALKS WALK-WORDS) j
+Inv-loop tables limit n j₀ j = So (walkIn tables) 0 (rows tables WALKS WALK-WORDS) j
 
 abbrev μ-loop : tie.MeasureT-loop
 μ-loop tables limit n j₀ j = n - j

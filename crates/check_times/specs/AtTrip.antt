@@ -5,7 +5,7 @@ use Rattle.repository.specs.NetOf.{netOf}
 use Rattle.repository.specs.Laid.{Laid}
 use Rattle.repository.specs.Accepted.{Listed}
 
-pub record Stands (w : List ℕ) (r p i : ℕ) : Type 0 where
+pub record AtTrip (w : List ℕ) (r p i : ℕ) : Type 0 where
   pub laid : Laid w
   pub listed : Listed w
   pub route : r < netOf w .routes
