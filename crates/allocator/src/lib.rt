@@ -29,7 +29,7 @@ use model::Mode;
 use shared::Time;
 
 // What a route's mark holds before a departure search, and each word of an absent parent.
-const MAX: u32 = 4294967295;
+const MAX: u32 = shared::MAX;
 
 // The leg by which a stop was reached, if it was.
 pub enum Parent {

@@ -26,7 +26,7 @@ fn place_of(kind: u32, at: u32) -> Location
     if kind == 1 {
         return Location::Area(at);
     }
-    Location::Stop(4294967295)
+    Location::Stop(shared::MAX)
 }
 
 // 0 departs at the moment, 1 arrives by it; a word that means nothing asks for a moment that may not be asked.
@@ -170,11 +170,11 @@ pub fn tell_leg(leg: &mut [u32], g: Leg) -> u32
             return 21;
         }
         LegType::Transfer => {
-            put_leg(leg, 2, 4294967295, g);
+            put_leg(leg, 2, shared::MAX, g);
             return 17;
         }
         LegType::Walk => {
-            put_leg(leg, 3, 4294967295, g);
+            put_leg(leg, 3, shared::MAX, g);
             return 17;
         }
     }

@@ -10,4 +10,4 @@ pub mod footpaths; // footpaths.rt: the transfers and the walks of a stop
 pub mod places; // places.rt: stations, their children, areas
 
 // "an unstated span or absent parent is MAX"
-pub const MAX: u32 = 4_294_967_295;
+pub const MAX: u32 = shared::MAX;
