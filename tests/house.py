@@ -10,8 +10,21 @@ from reading import HERE, crates, every_function, indent, text_of, there
 
 WIDEST, MOST = 140, 7
 DECISIONS, PROVING = "docs/DECISIONS.md", "docs/PROVING.md"
-# A name that the definitions of some crates share: which (`one two`), and why they may. Any other crate's is refused all the same.
-TWICE = {}
+# A name that the definitions of some crates share: which (`one two`), and why they may. Any other crate's is refused all the same, and so is a file that
+# cites two of them.
+CHECK = "of the check it is a test, called by its rule (docs/TABLES.md); of the search it is document 01's own word"
+TWICE = {
+    "listed": ("model repository", CHECK),
+    "fresh": ("model repository", CHECK),
+    "starting": ("model repository", CHECK),
+    "started": ("allocator repository", CHECK),
+    "sized": ("raptor repository", CHECK),
+    "walk": ("repository", "in Listed a footpath's row; in Checked the walk over a timetable: \"walks routes, then positions, then trips\""),
+    "Words": ("allocator repository", "what the words of a slice are: of the workspace, of a section"),
+    "Marks": ("allocator check_listing", "what marks are: those of the workspace, those that the check sets"),
+    "Stands": ("check_times repository", "where a time stands: of a trip's row, of a place in a route"),
+    "Chosen": ("model raptor_reply", "the routes that are chosen, and the stop that is: document 01 has one word for both"),
+}
 # A law or a definition that nothing reaches, and why it stays.
 ALONE = {}
 NAME = r"[^\s(){}⌜⌝«»,;:\[\]λ.]+"
@@ -150,8 +163,16 @@ for name, paths in sorted(where.items()):
     others = [p for p in paths if p.split("/")[1] not in sharing]
     if len(others) + (len(others) < len(paths)) > 1:
         complain(" and ".join(paths), f"both define {name}")
+for path in files("crates/*/specs/**/*.antt") + files("crates/*/proofs/**/*.antt") + files("crates/*/src/**/*.rt"):
+    cites = {}
+    for module, braces in used(path[len("crates/") :]):
+        for now, was in names(braces):
+            if was in TWICE and isinstance(file_of(module), str):
+                cites.setdefault(was, set()).add(f"crates/{file_of(module)}")
+    for name in sorted(n for n in TWICE if len(cites.get(n, set()) | ({path} & set(where.get(n, [])))) > 1):
+        complain(path, f"it cites two definitions of {name}")
 for name, (sharing, why) in TWICE.items():
-    if not set(sharing.split()) <= {p.split("/")[1] for p in where.get(name, [])}:
+    if len(where.get(name, [])) < 2 or not set(sharing.split()) <= {p.split("/")[1] for p in where.get(name, [])}:
         complain("tests/house.py", f"{name} is not shared by {sharing}: take that off the list")
 
 # ==== no law and no definition that nothing reaches: from what the prover asks of each function, from contracts and from pages

@@ -315,6 +315,8 @@ MUTATIONS = [
     ("a file that does not say its subject", first_line_gone, False, RULES, "crates/journey/specs/Parts.antt: its first line does not say"),
     ("a script that does not say its subject", lambda: write("tests/more.py", "import os\n"), False, RULES, "tests/more.py: its first line does not say"),
     ("a name that two definitions have", added("crates/journey/specs/Put.antt", "unfoldable pub legSize : ℕ → ℕ\nlegSize n = n\n"), False, RULES, "both define legSize"),
+    ("a third definition of a name that two share", added("crates/journey/specs/Parts.antt", "unfoldable pub listed : ℕ → ℕ\nlisted n = n\n"), False, RULES, "both define listed"),
+    ("a file that cites two definitions of one name", lambda: sub("crates/raptor/specs/Solved.antt", "\nuse ", "\nuse Rattle.repository.specs.Laid.{sized as laidOut}\nuse "), False, RULES, "it cites two definitions of sized"),
     ("a law that nobody cites", added("crates/marks/proofs/Laws.antt", "pub no-one-asks : 0 ≡ 0\nno-one-asks = refl\n"), False, RULES, "nothing reaches no-one-asks"),
     ("two laws that cite only each other", added("crates/marks/proofs/Laws.antt", "island : 0 ≡ 0\nisland = strand\n\nstrand : 0 ≡ 0\nstrand = island\n"), False, RULES, "nothing reaches strand"),
     ("a definition that nobody cites", added("crates/marks/specs/Marks.antt", "unfoldable pub idleMark : ℕ → ℕ\nidleMark n = n\n"), False, RULES, "nothing reaches idleMark"),
