@@ -133,6 +133,14 @@ fn print_found(tables: &[u32], journey: &[u8], length: usize, round: u32, q: Que
     print_journey(tables, &journey[..length], round, q, midnight);
 }
 
+// What number 3 means: three faults of moments.
+fn print_moments() {
+    print::text(
+        b": a timetable moment outside 1 to 1,000,000; arrival after departure at a position; ",
+    );
+    print::text(b"departure after the next position's arrival\n");
+}
+
 // What a number of the tables means, in document 01's words.
 fn print_fault(number: u32) {
     match number {
@@ -140,9 +148,7 @@ fn print_fault(number: u32) {
             b": a count over its limit, a route without a stop, a slice of wrong length\n",
         ),
         2 => print::text(b": an index out of range, or a list breaking a listing rule\n"),
-        3 => print::text(
-            b": a timetable moment outside 1 to 1,000,000; arrival after departure at a position; departure after the next position's arrival\n",
-        ),
+        3 => print_moments(),
         4 => print::text(b": trips of a route out of order\n"),
         _ => print::text(
             b": a distance that is NaN, below 0 or above 100,000; a stated transfer span above 86,400\n",
