@@ -12,17 +12,7 @@ WIDEST, MOST = 140, 7
 DECISIONS, PROVING = "docs/DECISIONS.md", "docs/PROVING.md"
 # A name that the definitions of some crates share: which (`one two`), and why they may. Any other crate's is refused all the same, and so is a file that
 # cites two of them.
-CHECK = "of the check it is a test, called by its rule (docs/TABLES.md); of the search it is document 01's own word"
 TWICE = {
-    "listed": ("model repository", CHECK),
-    "fresh": ("model repository", CHECK),
-    "starting": ("model repository", CHECK),
-    "started": ("allocator repository", CHECK),
-    "sized": ("raptor repository", CHECK),
-    "walk": ("repository", "in Listed a footpath's row; in Checked the walk over a timetable: \"walks routes, then positions, then trips\""),
-    "Words": ("allocator repository", "what the words of a slice are: of the workspace, of a section"),
-    "Marks": ("allocator check_listing", "what marks are: those of the workspace, those that the check sets"),
-    "Stands": ("check_times repository", "where a time stands: of a trip's row, of a place in a route"),
     "Chosen": ("model raptor_reply", "the routes that are chosen, and the stop that is: document 01 has one word for both"),
 }
 # A law or a definition that nothing reaches, and why it stays.

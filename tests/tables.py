@@ -106,9 +106,9 @@ def parts(path, name):
 
 order = re.findall(r"\((\w+) ", formula(CHECKED, "checkOf").replace("cond", "").replace("(netOf w)", "w").replace("( ", "("))
 want = [(1, p) for p in parts(LAID, "laid")]
-want += [(2, p) for q in parts(LISTED, "listed") for p in (parts(LISTED, q) if q == "framed" else [q])]
+want += [(2, p) for q in parts(LISTED, "wellListed") for p in (parts(LISTED, q) if q == "framed" else [q])]
 want += [(3, "timed"), (4, "ordered"), (5, "measured")]
-if order != ["laid", "listed", "timed", "ordered", "measured"]:
+if order != ["laid", "wellListed", "timed", "ordered", "measured"]:
     complain(f"the check asks {order}, one number each", CHECKED)
 rules = rows("The rules, by the number that is given back")
 if [(int(k), bare(name)) for k, rule, name in rules] != want:

@@ -24,7 +24,3 @@ each-map f (cons {x = x} p h) = cons (f x p) (each-map f h)
 pub each-both : {A : Type 0} {P Q : A → Type 0} {xs : List A} → Each P xs → Each Q xs → Each (λ x. P x × Q x) xs
 each-both nil nil = nil
 each-both (cons p h) (cons q k) = cons (p, q) (each-both h k)
-
-pub each-all : {A : Type 0} {P : A → Type 0} → ((x : A) → P x) → (xs : List A) → Each P xs
-each-all f [] = nil
-each-all f (x ∷ xs) = cons (f x) (each-all f xs)
