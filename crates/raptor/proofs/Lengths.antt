@@ -19,7 +19,6 @@ use Rattle.allocator.proofs.Roomy.{sized-of}
 use Rattle.raptor.specs.declared.Needed.{Needed}
 use Rattle.raptor.specs.declared.Needed.the-variants.{Lengths, Refused}
 use Rattle.raptor.specs.Solved.{placesRoom, roomFor}
-use Rattle.raptor.specs.Searching.{Tabled}
 use Rattle.raptor.specs.Rooms.{roomBy, roomOf}
 
 -- ---- the tables
@@ -60,24 +59,20 @@ module _ (s r : ℕ) {a w : ℕ} (y p : ℕ) (ea : a ≡ wordsRoom s r) where
     unfolding roomFor
     by-places h = rw (eq-eqb w (wordsRoom s r) (ew ∙ ea), eq-eqb y (marksRoom s r) (h ∙ eb))
 
-module _ {t : List ℕ} {n m : ℕ} (h : Accepted t) (en : n ≡ netOf t .stops) (em : m ≡ netOf t .routes) where
-  pub tabled-of : Tabled t n m
-  tabled-of = record { known = λ u. record { accepted = h; stops = en; routes = em } }
+module _ (n m : ℕ) (w y p : List ℕ) {b : Bool} (e : b ≡ roomFor n m (length w) (length y) (length p)) (f : b ≡ true) where
+  all : eqb (length w) (wordsRoom n m) && eqb (length y) (marksRoom n m) && eqb (length p) (n + n) ≡ true
+  unfolding roomFor
+  all = sym e ∙ f
 
-  module _ (w y p : List ℕ) {b : Bool} (e : b ≡ roomFor n m (length w) (length y) (length p)) (f : b ≡ true) where
-    all : eqb (length w) (wordsRoom n m) && eqb (length y) (marksRoom n m) && eqb (length p) (n + n) ≡ true
-    unfolding roomFor
-    all = sym e ∙ f
+  pub room-places : length p ≡ n + n
+  room-places =
+      eqb-true (length p) (n + n)
+      (and-right (eqb (length w) (wordsRoom n m) && eqb (length y) (marksRoom n m)) (eqb (length p) (n + n)) all)
 
-    pub room-sized : Sized n m w y
-    room-sized =
-        let a = eqb (length w) (wordsRoom n m) in
-        let b = eqb (length y) (marksRoom n m) in
-        let ab = and-left (a && b) (eqb (length p) (n + n)) all in
-        sized-of (rw en (stops-few (h .laid))) (rw em (routes-few (h .laid))) (eqb-true (length w) (wordsRoom n m) (and-left a b ab))
-        (eqb-true (length y) (marksRoom n m) (and-right a b ab))
-
-    pub room-places : length p ≡ n + n
-    room-places =
-        eqb-true (length p) (n + n)
-        (and-right (eqb (length w) (wordsRoom n m) && eqb (length y) (marksRoom n m)) (eqb (length p) (n + n)) all)
+  pub room-sized : {t : List ℕ} → Accepted t → n ≡ netOf t .stops → m ≡ netOf t .routes → Sized n m w y
+  room-sized h en em =
+      let a = eqb (length w) (wordsRoom n m) in
+      let b = eqb (length y) (marksRoom n m) in
+      let ab = and-left (a && b) (eqb (length p) (n + n)) all in
+      sized-of (rw en (stops-few (h .laid))) (rw em (routes-few (h .laid))) (eqb-true (length w) (wordsRoom n m) (and-left a b ab))
+      (eqb-true (length y) (marksRoom n m) (and-right a b ab))

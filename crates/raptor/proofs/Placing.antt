@@ -26,10 +26,10 @@ use Rattle.repository.proofs.Ranges.{stops-few}
 use Rattle.repository.proofs.Areas.{area-fits}
 use Rattle.raptor_query.specs.Areas.{areaPart}
 use Rattle.raptor_query.proofs.Places.{area-there}
-use Rattle.raptor_rounds.specs.Fixed.{Fixed}
+use Rattle.raptor_rounds.specs.declared.Ask.{Ask}
 use Rattle.raptor_rounds.specs.Stops.{Below}
-use Rattle.raptor.proofs.Searched.{tabled-fixed}
-use Rattle.raptor.specs.Searching.{Tabled, Place, Written}
+use Rattle.raptor.proofs.Searched.{posed-accepted, posed-stops}
+use Rattle.raptor.specs.Searching.{askOf, Posed, Place, Written}
 
 pub part-length : (n i : ℕ) (l : List ℕ) → i ≤ n → length l ≡ n + n → i ≡ length (take i l)
 part-length n i l h e = sym (length-take-le i l (omega arith))
@@ -74,15 +74,18 @@ placed-long {t} h l e =
     ap (λ (x : List ℕ). length x) (placed-is n l)
     ∙ omega (arith, fits h l e, length-append (areaPart n l) z, length-replicate {A = ℕ} (n .stops - length (areaPart n l)) 0)
 
-module _ {t : List ℕ} {s m : ℕ} (y : Tabled t s m) (q : Query) (z : refusal (netOf t) q ≡ 0) where
-  x : Fixed t s m
-  x = tabled-fixed y
+module _ {t : List ℕ} {q : Query} {ask : Ask} (y : Posed t q ask) where
+  abbrev s : ℕ
+  s = ask .stops
+
+  z : refusal (netOf t) q ≡ 0
+  z = y .unrefused
 
   p : Passed (netOf t) q
   p = passed (netOf t) q z
 
   a : Asked (netOf t) (taskOf (netOf t) q)
-  a = asked (netOf t) (accepted-sound (x .accepted)) q z
+  a = asked (netOf t) (accepted-sound (posed-accepted y)) q z
 
   pub from-there : exists (netOf t) (q .from) ≡ true
   from-there = p .from
@@ -90,41 +93,34 @@ module _ {t : List ℕ} {s m : ℕ} (y : Tabled t s m) (q : Query) (z : refusal 
   pub to-there : exists (netOf t) (q .to) ≡ true
   to-there = p .to
 
-  pub asked-moment : 0 < momentOf (q .time)
-  asked-moment = let h = p .first in omega arith
+  pub asked-moment : 0 < ask .moment .0
+  unfolding askOf
+  asked-moment = let h = p .first in let e : ask .moment .0 ≡ momentOf (q .time) = ap (λ (v : Ask). v .moment .0) (y .asks) in omega arith
 
-  pub asked-departure : {c : Time} → q .time ≡ Departure c → 0 < c .0
-  unfolding momentOf
-  asked-departure e = rw e at asked-moment
-
-  pub asked-arrival : {c : Time} → q .time ≡ Arrival c → 0 < c .0
-  unfolding momentOf
-  asked-arrival e = rw e at asked-moment
-
-  pub stops-most : s ≤ 4096
-  stops-most = let e = x .stops in let h = stops-few (x .accepted .laid) in omega arith
+  pub stops-most : ask .stops ≤ 4096
+  stops-most = let e = posed-stops y in let h = stops-few ((posed-accepted y) .laid) in omega arith
 
   from-below : Below s (placeStops (netOf t) (q .from))
   unfolding taskOf
   from-below =
-      rw (x .stops)
+      rw (posed-stops y)
       (all-below (placeStops (netOf t) (q .from)) (from-in (netOf t) (q .mode) (mayWalk (q .walks)) _ _ (q .time) a))
 
   to-below : Below s (placeStops (netOf t) (q .to))
   unfolding taskOf
   to-below =
-      rw (x .stops)
+      rw (posed-stops y)
       (all-below (placeStops (netOf t) (q .to)) (to-in (netOf t) (q .mode) (mayWalk (q .walks)) _ _ (q .time) a))
 
   -- how many stops each half holds, and how many places there are
-  pub from-fits : {i : ℕ} → i ≡ length (areaPart (netOf t) (q .from)) → i ≤ s
-  from-fits e = let u = fits (x .accepted) (q .from) from-there in let f = x .stops in omega arith
+  pub from-fits : {i : ℕ} → i ≡ length (areaPart (netOf t) (q .from)) → i ≤ ask .stops
+  from-fits e = let u = fits (posed-accepted y) (q .from) from-there in let f = posed-stops y in omega arith
 
-  pub to-fits : {k : ℕ} → k ≡ length (areaPart (netOf t) (q .to)) → k ≤ s
-  to-fits e = let u = fits (x .accepted) (q .to) to-there in let f = x .stops in omega arith
+  pub to-fits : {k : ℕ} → k ≡ length (areaPart (netOf t) (q .to)) → k ≤ ask .stops
+  to-fits e = let u = fits (posed-accepted y) (q .to) to-there in let f = posed-stops y in omega arith
 
   module _ {places : List ℕ} {i k : ℕ} (w : Written (netOf t) q places i k) where
-    pub place-from : Place (netOf t) s (q .from) (take i places)
+    pub place-from : Place (netOf t) (ask .stops) (q .from) (take i places)
     place-from = record {
       there = from-there;
       below = from-below;
@@ -136,7 +132,7 @@ module _ {t : List ℕ} {s m : ℕ} (y : Tabled t s m) (q : Query) (z : refusal 
           ∙ take-at (areaPart (netOf t) (q .from)) _ i (sym (w .from-size)));
     }
 
-    pub place-to : Place (netOf t) s (q .to) (take (s + k - s) (drop s places))
+    pub place-to : Place (netOf t) (ask .stops) (q .to) (take (ask .stops + k - ask .stops) (drop (ask .stops) places))
     place-to = record {
       there = to-there;
       below = to-below;
@@ -145,7 +141,7 @@ module _ {t : List ℕ} {s m : ℕ} (y : Tabled t s m) (q : Query) (z : refusal 
           let f : drop s places ≡ placed (netOf t) (q .to) =
           ap (drop s) (w .places)
           ∙ drop-at (placed (netOf t) (q .from)) (placed (netOf t) (q .to)) s
-          (placed-long (x .accepted) (q .from) from-there ∙ sym (x .stops)) in
+          (placed-long (posed-accepted y) (q .from) from-there ∙ sym (posed-stops y)) in
           ap (λ (l : ℕ). take l (drop s places)) e ∙ ap (take k) (f ∙ placed-is (netOf t) (q .to))
           ∙ take-at (areaPart (netOf t) (q .to)) _ k (sym (w .to-size));
     }

@@ -3,21 +3,18 @@ use Prim.Native.Nat.{ℕ, _<_}
 use mathlib.Core.Path.{_≡_, refl, sym, ap, _∙_, subst}
 use mathlib.Core.Bool.{Bool, true}
 use mathlib.Core.List.{List}
-use mathlib.Core.Option.{Option}
 use native.Mathlib.Omega.{arith}
 use Rattle.shared.specs.declared.Time.{Time}
 use Rattle.model.specs.declared.Direction.{Direction}
 use Rattle.model.specs.declared.Direction.the-variants.{Departure as Departing, Arrival as Arriving}
-use Rattle.model.specs.declared.Leg.{Leg}
 use Rattle.model.specs.declared.Location.{Location}
 use Rattle.model.specs.declared.Location.the-variants.{Stop, Area}
 use Rattle.model.specs.declared.Mode.{Mode}
 use Rattle.model.specs.declared.Query.{Query}
-use Rattle.model.specs.declared.Target.{Target}
 use Rattle.model.specs.declared.TimeConstraint.{TimeConstraint}
 use Rattle.model.specs.declared.TimeConstraint.the-variants.{Departure, Arrival}
 use Rattle.model.specs.Tables.{Net}
-use Rattle.model.specs.State.{task, State}
+use Rattle.model.specs.State.{Task, task, State}
 use Rattle.model.specs.Places.{exists, placeStops, stopsOfArea}
 use Rattle.model.specs.Answer.{mayWalk, momentOf, taskBy, taskOf, refusal, searched}
 use Rattle.model.specs.Round.{listed}
@@ -26,19 +23,10 @@ use Rattle.repository.specs.Accepted.{Accepted}
 use Rattle.repository.specs.NetOf.{netOf}
 use Rattle.raptor_query.specs.Areas.{areaPart}
 use Rattle.raptor_query.proofs.Places.{stop-there}
-use Rattle.raptor_rounds.specs.Fixed.{Fixed}
+use Rattle.raptor_query.specs.Directed.{directionOf}
+use Rattle.raptor_rounds.specs.declared.Ask.{Ask}
 use Rattle.raptor_rounds.specs.Stops.{Below}
-use Rattle.raptor.specs.Searching.{Tabled, Place}
-
-module _ {t : List ℕ} {n m : ℕ} (x : Tabled t n m) where
-  pub tabled-fixed : Fixed t n m
-  tabled-fixed = x .known tt
-
-  pub tabled-accepted : Accepted t
-  tabled-accepted = tabled-fixed .accepted
-
-  pub tabled-stops : n ≡ netOf t .stops
-  tabled-stops = tabled-fixed .stops
+use Rattle.raptor.specs.Searching.{askOf, Posed, Place}
 
 module _ {n : Net} {k : ℕ} {l : Location} {area : List ℕ} (p : Place n k l area) where
   pub stop-known : {s : ℕ} → l ≡ Stop s → s < n .stops
@@ -56,14 +44,78 @@ module _ {n : Net} {k : ℕ} {l : Location} {area : List ℕ} (p : Place n k l a
   pub place-below : {ss : List ℕ} → ss ≡ placeStops n l → Below k ss
   place-below f = subst (Below k) (sym f) (p .below)
 
--- a query, by its direction
-module _ (n : Net) (q : Query) {c : TimeConstraint} {w : Bool} {t : Time} (ec : c ≡ q .time) (ew : w ≡ mayWalk (q .walks)) {s : State} where
-  pub departing-is : {ss gs : List ℕ} → c ≡ Departure t → ss ≡ placeStops n (q .from) → gs ≡ placeStops n (q .to)
-      → s ≡ search n (task Departing (q .mode) w ss gs (t .0)) listed → s ≡ searched n q
-  unfolding searched taskOf taskBy
-  departing-is e f h g = rw (← ec, e, ← ew) (rw (f, h) at g)
+-- ---- a query, as it is asked
 
-  pub arriving-is : {ss gs : List ℕ} → c ≡ Arrival t → ss ≡ placeStops n (q .to) → gs ≡ placeStops n (q .from)
-      → s ≡ search n (task Arriving (q .mode) w ss gs (t .0)) listed → s ≡ searched n q
-  unfolding searched taskOf taskBy
-  arriving-is e f h g = rw (← ec, e, ← ew) (rw (f, h) at g)
+pub ask-is : (n : Net) (q : Query) {s r : ℕ} {d : Direction} {w : Bool} {m : Time} → s ≡ n .stops → r ≡ n .routes
+    → d ≡ directionOf (q .time) → w ≡ mayWalk (q .walks) → m .0 ≡ momentOf (q .time)
+    → record { stops = s; routes = r; direction = d; mode = q .mode; walking = w; moment = m } ≡ askOf n q
+unfolding askOf
+ask-is n q es er ed ew em = λ i. record {
+  stops = es i;
+  routes = er i;
+  direction = ed i;
+  mode = q .mode;
+  walking = ew i;
+  moment = record { 0 = em i };
+}
+
+module _ (n : Net) (q : Query) {a : Ask} (e : a ≡ askOf n q) where
+  pub ask-stops : a .stops ≡ n .stops
+  unfolding askOf
+  ask-stops = ap (λ (x : Ask). x .stops) e
+
+  pub ask-routes : a .routes ≡ n .routes
+  unfolding askOf
+  ask-routes = ap (λ (x : Ask). x .routes) e
+
+pub posed-of : {t : List ℕ} {q : Query} {a : Ask} {k : ℕ} → Accepted t → a ≡ askOf (netOf t) q → k ≡ refusal (netOf t) q → k ≡ 0
+    → Posed t q a
+posed-of h e f z = record {
+  tabled = record { known = λ u. record { accepted = h; stops = ask-stops _ _ e; routes = ask-routes _ _ e } };
+  asks = e;
+  unrefused = sym f ∙ z;
+}
+
+module _ {t : List ℕ} {q : Query} {a : Ask} (p : Posed t q a) where
+  pub posed-accepted : Accepted t
+  posed-accepted = p .tabled .known tt .accepted
+
+  pub posed-stops : a .stops ≡ netOf t .stops
+  posed-stops = p .tabled .known tt .stops
+
+  pub posed-routes : a .routes ≡ netOf t .routes
+  posed-routes = p .tabled .known tt .routes
+
+  pub posed-direction : a .direction ≡ directionOf (q .time)
+  unfolding askOf
+  posed-direction = ap (λ (x : Ask). x .direction) (p .asks)
+
+-- by its direction
+module _ (mode : Mode) (w : Bool) (ss gs : List ℕ) where
+  departing : (c : TimeConstraint) → directionOf c ≡ Departing → task (directionOf c) mode w ss gs (momentOf c) ≡ taskBy c mode w ss gs
+  unfolding momentOf taskBy
+  departing (Departure t) e = refl
+  departing (Arrival t) e = let z : _≡_ {A = ℕ} 0 1 = cc in absurd (omega arith)
+
+  arriving : (c : TimeConstraint) → directionOf c ≡ Arriving → task (directionOf c) mode w gs ss (momentOf c) ≡ taskBy c mode w ss gs
+  unfolding momentOf taskBy
+  arriving (Departure t) e = let z : _≡_ {A = ℕ} 0 1 = cc in absurd (omega arith)
+  arriving (Arrival t) e = refl
+
+abbrev asked-by : List ℕ → List ℕ → Ask → Task
+asked-by ss gs x = task (x .direction) (x .mode) (x .walking) ss gs (x .moment .0)
+
+module _ (t : List ℕ) (q : Query) {a : Ask} (p : Posed t q a) where
+  pub departing-is : {ss gs : List ℕ} {s : State} → a .direction ≡ Departing → ss ≡ placeStops (netOf t) (q .from) → gs ≡ placeStops (netOf t) (q .to)
+      → s ≡ search (netOf t) (task (a .direction) (a .mode) (a .walking) ss gs (a .moment .0)) listed → s ≡ searched (netOf t) q
+  unfolding searched taskOf askOf
+  departing-is {ss} {gs} d f h g =
+      g ∙ ap (λ (x : Task). search (netOf t) x listed)
+      (ap (asked-by ss gs) (p .asks) ∙ rw (f, h) (departing (q .mode) (mayWalk (q .walks)) (placeStops (netOf t) (q .from)) (placeStops (netOf t) (q .to)) (q .time) (sym (posed-direction p) ∙ d)))
+
+  pub arriving-is : {ss gs : List ℕ} {s : State} → a .direction ≡ Arriving → ss ≡ placeStops (netOf t) (q .to) → gs ≡ placeStops (netOf t) (q .from)
+      → s ≡ search (netOf t) (task (a .direction) (a .mode) (a .walking) ss gs (a .moment .0)) listed → s ≡ searched (netOf t) q
+  unfolding searched taskOf askOf
+  arriving-is {ss} {gs} d f h g =
+      g ∙ ap (λ (x : Task). search (netOf t) x listed)
+      (ap (asked-by ss gs) (p .asks) ∙ rw (f, h) (arriving (q .mode) (mayWalk (q .walks)) (placeStops (netOf t) (q .from)) (placeStops (netOf t) (q .to)) (q .time) (sym (posed-direction p) ∙ d)))

@@ -28,28 +28,19 @@ use Rattle.model.proofs.Orders.{listed-fair}
 use Rattle.model.proofs.Search.{Reached, reached}
 use Rattle.repository.specs.NetOf.{netOf}
 use Rattle.repository.proofs.Sound.{accepted-sound}
-use Rattle.allocator.specs.Layout.{Words, Sized, view, parentsOf}
+use Rattle.allocator.specs.Layout.{Sized, view, parentsOf}
 use Rattle.allocator.specs.Tidy.{Tidy}
+use Rattle.allocator.specs.Does.{Usable}
 use Rattle.path.specs.Traced.{Traced}
 use Rattle.path.proofs.Reached.{reached-traced}
 use Rattle.raptor_query.specs.Directed.{directionOf}
 use Rattle.raptor_reply.specs.Chosen.{Chosen, legsBack}
-use Rattle.raptor_rounds.specs.Fixed.{Fixed}
+use Rattle.raptor_rounds.specs.declared.Ask.{Ask}
 use Rattle.raptor.specs.Lent.{lent}
 use Rattle.raptor.specs.Solved.{holds, Ended}
-use Rattle.raptor.specs.Searching.{Tabled, Ran}
-use Rattle.raptor.proofs.Searched.{tabled-fixed}
+use Rattle.raptor.specs.Searching.{Posed, Ran}
+use Rattle.raptor.proofs.Searched.{posed-accepted, posed-stops, posed-routes, posed-direction}
 use Rattle.raptor.proofs.Placing.{from-there, placed-long}
-
-pub sized-words : {n m : ℕ} {w y : List ℕ} → Sized n m w y → Words n m w
-sized-words z = z .words
-
--- a slice that was lent has kept its length
-pub sized-after : {n m : ℕ} {w y u v : List ℕ} → Sized n m w y → length u ≡ length w → length v ≡ length y → Sized n m u v
-sized-after z e f = record {
-  words = record { most-stops = z .words .most-stops; most-routes = z .words .most-routes; words-length = e ∙ z .words .words-length };
-  marks = record { most-stops = z .words .most-stops; most-routes = z .words .most-routes; marks-length = f ∙ z .marks .marks-length };
-}
 
 -- the direction of a query's task
 directed : (c : TimeConstraint) (mode : Mode) (walks : Bool) (from to : List ℕ) → (taskBy c mode walks from to) .direction ≡ directionOf c
@@ -61,13 +52,25 @@ task-directed : (n : Net) (q : Query) → (taskOf n q) .direction ≡ directionO
 unfolding taskOf
 task-directed n q = directed (q .time) (q .mode) (mayWalk (q .walks)) (placeStops n (q .from)) (placeStops n (q .to))
 
-module _ {t : List ℕ} {n m : ℕ} (v : Tabled t n m) (q : Query) (z : refusal (netOf t) q ≡ 0) (w y : List ℕ) {g : Target}
-    (e : stateOf (view n m w y) g ≡ searched (netOf t) q) {d : Direction} (ed : d ≡ directionOf (q .time)) where
-  x : Fixed t n m
-  x = tabled-fixed v
+module _ {t : List ℕ} {q : Query} {ask : Ask} (v : Posed t q ask) (w y : List ℕ) {g : Target}
+    (e : stateOf (view (ask .stops) (ask .routes) w y) g ≡ searched (netOf t) q) where
+  abbrev n : ℕ
+  n = ask .stops
+
+  abbrev m : ℕ
+  m = ask .routes
+
+  abbrev d : Direction
+  d = ask .direction
+
+  z : refusal (netOf t) q ≡ 0
+  z = v .unrefused
+
+  ed : ask .direction ≡ directionOf (q .time)
+  ed = posed-direction v
 
   as-net : (P : ℕ → ℕ → Type 0) → P n m → P (netOf t .stops) (netOf t .routes)
-  as-net P u = subst (λ (r : ℕ). P (netOf t .stops) r) (x .routes) (subst (λ (s : ℕ). P s m) (x .stops) u)
+  as-net P u = subst (λ (r : ℕ). P (netOf t .stops) r) (posed-routes v) (subst (λ (s : ℕ). P s m) (posed-stops v) u)
 
   found : g ≡ (searched (netOf t) q) .times .target
   found = ap (λ (s : State). s .times .target) e
@@ -80,11 +83,11 @@ module _ {t : List ℕ} {n m : ℕ} (v : Tabled t n m) (q : Query) (z : refusal 
     back : Reached (netOf t) (taskOf (netOf t) q) 15 ((searched (netOf t) q) .parents) ((searched (netOf t) q) .times .target)
     unfolding searched
     back =
-        let ok = accepted-sound (x .accepted) in
+        let ok = accepted-sound (posed-accepted v) in
         reached (netOf t) (taskOf (netOf t) q) ok (asked (netOf t) ok q z) listed listed-fair (rw found at h)
 
     traced : Traced d n (parentsOf n m w) (g .round) (g .stop)
-    traced = rw (parents, found, ed, ← (task-directed (netOf t) q), x .stops) (reached-traced (netOf t) (taskOf (netOf t) q) back)
+    traced = rw (parents, found, ed, ← (task-directed (netOf t) q), posed-stops v) (reached-traced (netOf t) (taskOf (netOf t) q) back)
 
   -- where a stop is chosen, the parents lead from it to a beginning
   pub is-chosen : Chosen d n (parentsOf n m w) g
@@ -92,11 +95,11 @@ module _ {t : List ℕ} {n m : ℕ} (v : Tabled t n m) (q : Query) (z : refusal 
 
   legs-are : legsBack d n (parentsOf n m w) g ≡ legsOf (netOf t) q
   unfolding legsBack legsOf journey trace
-  legs-are = rw (parents, found, ed, ← (task-directed (netOf t) q), x .stops)
+  legs-are = rw (parents, found, ed, ← (task-directed (netOf t) q), posed-stops v)
 
-  module _ {p : List ℕ} (j′ : List ℕ) (ep : p ≡ placed (netOf t) (q .from) ++ placed (netOf t) (q .to)) (fits : Sized n m w y) (tidy : Tidy n m w y) where
+  module _ {p : List ℕ} (j′ : List ℕ) (ep : p ≡ placed (netOf t) (q .from) ++ placed (netOf t) (q .to)) (left : Usable n m w y) where
     long : length (placed (netOf t) (q .from)) ≡ n
-    long = placed-long (x .accepted) (q .from) (from-there v q z) ∙ sym (x .stops)
+    long = placed-long (posed-accepted v) (q .from) (from-there v) ∙ sym (posed-stops v)
 
     work : view n m w y ≡ workOf (searched (netOf t) q)
     work = ap workOf e
@@ -111,8 +114,8 @@ module _ {t : List ℕ} {n m : ℕ} (v : Tabled t n m) (q : Query) (z : refusal 
     is-ended : Ended (netOf t) q (lent w y p j′)
     is-ended = record {
       ends = as-net (λ s r. holds s r (lent w y p j′) ≡ workspaceOf (netOf t) q (searched (netOf t) q)) held;
-      fits = as-net (λ s r. Sized s r w y) fits;
-      tidy = as-net (λ s r. Tidy s r w y) tidy;
+      fits = as-net (λ s r. Sized s r w y) (left .sized);
+      tidy = as-net (λ s r. Tidy s r w y) (left .tidy);
     }
 
     pub ran : {r : Answer} {j : List ℕ} → r ≡ reply (length j) g (legsBack d n (parentsOf n m w) g)

@@ -7,22 +7,35 @@ use lib.ListN.{length}
 use Rattle.model.specs.declared.Answer.{Answer}
 use Rattle.model.specs.declared.Location.{Location}
 use Rattle.model.specs.declared.Query.{Query}
-use Rattle.model.specs.declared.Target.{Target}
 use Rattle.model.specs.Tables.{Net}
 use Rattle.model.specs.Places.{exists, placeStops}
-use Rattle.model.specs.Answer.{refusal, searched, legsOf, reply}
+use Rattle.model.specs.Answer.{mayWalk, momentOf, refusal, searched, legsOf, reply}
 use Rattle.model.specs.Left.{placed, written}
-use Rattle.model.specs.Work.{stateOf}
-use Rattle.allocator.specs.Layout.{view}
+use Rattle.repository.specs.NetOf.{netOf}
 use Rattle.raptor_query.specs.Areas.{areaPart}
-use Rattle.raptor_rounds.specs.Fixed.{Fixed}
+use Rattle.raptor_query.specs.Directed.{directionOf}
+use Rattle.raptor_rounds.specs.declared.Ask.{Ask}
+use Rattle.raptor_rounds.specs.Tabled.{Tabled}
 use Rattle.raptor_rounds.specs.Stops.{Below}
 use Rattle.raptor.specs.Lent.{Lent}
 use Rattle.raptor.specs.Solved.{Ended}
 
--- accepted tables with s stops and r routes; the many facts of `Fixed` stand behind a function, so that only who asks for them has them
-pub record Tabled (t : List ℕ) (s r : ℕ) : Type 0 where
-  pub known : Unit {0} → Fixed t s r
+-- what the search is asked: the query's own, and the sizes of the tables
+unfoldable pub askOf : Net → Query → Ask
+askOf n q = record {
+  stops = n .stops;
+  routes = n .routes;
+  direction = directionOf (q .time);
+  mode = q .mode;
+  walking = mayWalk (q .walks);
+  moment = record { 0 = momentOf (q .time) };
+}
+
+-- a query that accepted tables do not refuse, as it is asked
+pub record Posed (t : List ℕ) (q : Query) (a : Ask) : Type 0 where
+  pub tabled : Tabled t (a .stops) (a .routes)
+  pub asks : a ≡ askOf (netOf t) q
+  pub unrefused : refusal (netOf t) q ≡ 0
 
 -- a place that exists, its stops known, and what of it stands in the workspace
 pub record Place (n : Net) (s : ℕ) (l : Location) (area : List ℕ) : Type 0 where

@@ -72,12 +72,13 @@ pub fn solve_checked(
         (lent (now (words .entry)) (now (marks .entry)) (now (places .entry)) (now (journey .entry))) r
         (lent (now (words .exit)) (now (marks .exit)) (now (places .exit)) (now (journey .exit))) ⌝ }
 {
-    let n = repository::places::stop_count(tables);
-    let m = repository::routes::route_count(tables);
+    let a = searching::ask_of(tables, q);
+    let n = a.stops;
+    let m = a.routes;
     if has_room(n, m, words.len(), marks.len(), places.len()) {
         let number = raptor_query::refusal(tables, q);
         if number == 0 {
-            return searching::run(tables, words, marks, places, journey, n, m, q);
+            return searching::run(tables, words, marks, places, journey, a, q);
         }
         return Answer::Refused(number);
     }

@@ -4,26 +4,45 @@ ghost use mathlib.Core.List.{_++_};
 ghost use Prim.Native.Nat.{_+_, _≤_, _<_};
 ghost use lib.ListN.{length};
 ghost use Rattle.model.specs.Places.{placeStops};
-ghost use Rattle.model.specs.Answer.{refusal, searched};
+ghost use Rattle.model.specs.Answer.{searched};
 ghost use Rattle.model.specs.Left.{placed};
-ghost use Rattle.model.specs.Round.{listed};
-ghost use Rattle.model.specs.Search.{search as searchOf};
 ghost use Rattle.model.specs.Work.{stateOf};
 ghost use Rattle.repository.specs.Accepted.{Accepted};
 ghost use Rattle.repository.specs.NetOf.{netOf};
 ghost use Rattle.allocator.specs.Layout.{Sized, view};
-ghost use Rattle.allocator.specs.Tidy.{Tidy};
-ghost use Rattle.raptor_rounds.specs.Stops.{Below};
-ghost use Rattle.model.specs.State.{task};
+ghost use Rattle.allocator.specs.Does.{Usable};
 ghost use Rattle.raptor.specs.Lent.{lent};
-ghost use Rattle.raptor.specs.Searching.{Tabled, Place, Written, Ran};
+ghost use Rattle.raptor.specs.Searching.{askOf, Posed, Place, Written, Ran};
 use model::Answer;
 use model::Direction;
 use model::Location;
 use model::Query;
 use model::Target;
-use model::TimeConstraint;
+use raptor_query::Sizes;
 use raptor_rounds::Ask;
+
+// What the search is asked: the query's own, and the sizes of the tables.
+pub fn ask_of(tables: &[u32], q: Query) -> Ask
+    requires { ⌜ Accepted (now tables) ⌝ }
+    ensures { λ a. ⌜ a ≡ askOf (netOf (now (tables .entry))) q ⌝ }
+{
+    let mode = q.mode;
+    let time = q.time;
+    let walks = q.walks;
+    let n = repository::places::stop_count(tables);
+    let m = repository::routes::route_count(tables);
+    let d = raptor_query::direction_of(time);
+    let walking = raptor_query::may_walk(walks);
+    let t = raptor_query::moment_of(time);
+    Ask {
+        stops: n,
+        routes: m,
+        direction: d,
+        mode: mode,
+        walking: walking,
+        moment: t,
+    }
+}
 
 // The stops of a place: a stop's stand in the tables, an area's in `area`.
 fn stops_of<'a>(tables: &'a [u32], n: u32, at: Location, area: &'a [u32]) -> &'a [u32]
@@ -44,76 +63,62 @@ fn search_for<'a>(
     marks: &mut [u64],
     origins: &'a [u32],
     goals: &'a [u32],
-    n: u32,
-    m: u32,
+    a: Ask,
     q: Query,
 ) -> Target
-    requires { ⌜ Tabled (now tables) n m ⌝ }
-    requires { ⌜ Sized n m (now words) (now marks) ⌝ }
-    requires { ⌜ refusal (netOf (now tables)) q ≡ 0 ⌝ }
-    requires { ⌜ Place (netOf (now tables)) n (q .from) (now origins) ⌝ }
-    requires { ⌜ Place (netOf (now tables)) n (q .to) (now goals) ⌝ }
-    ensures { λ g. ⌜ stateOf (view n m (now (words .exit)) (now (marks .exit))) g ≡ searched (netOf (now (tables .entry))) q ⌝ }
-    ensures { λ _. ⌜ Tidy n m (now (words .exit)) (now (marks .exit)) ⌝ }
+    requires { ⌜ Posed (now tables) q a ⌝ }
+    requires { ⌜ Sized (a .stops) (a .routes) (now words) (now marks) ⌝ }
+    requires { ⌜ Place (netOf (now tables)) (a .stops) (q .from) (now origins) ⌝ }
+    requires { ⌜ Place (netOf (now tables)) (a .stops) (q .to) (now goals) ⌝ }
+    ensures { λ g. ⌜ stateOf (view (a .stops) (a .routes) (now (words .exit)) (now (marks .exit))) g
+        ≡ searched (netOf (now (tables .entry))) q ⌝ }
+    ensures { λ _. ⌜ Usable (a .stops) (a .routes) (now (words .exit)) (now (marks .exit)) ⌝ }
 {
+    let n = a.stops;
+    let d = a.direction;
     let from = q.from;
     let to = q.to;
-    let mode = q.mode;
-    let walks = q.walks;
-    let walking = raptor_query::may_walk(walks);
-    let time = q.time;
     let left = stops_of(tables, n, from, origins);
     let reached = stops_of(tables, n, to, goals);
-    match time {
-        TimeConstraint::Departure(t) => {
-            let a = Ask {
-                direction: Direction::Departure,
-                mode: mode,
-                walking: walking,
-                moment: t,
-            };
-            return raptor_rounds::search(tables, words, marks, n, m, a, left, reached);
+    match d {
+        Direction::Departure => {
+            return raptor_rounds::search(tables, words, marks, a, left, reached);
         }
-        TimeConstraint::Arrival(t) => {
-            let a = Ask {
-                direction: Direction::Arrival,
-                mode: mode,
-                walking: walking,
-                moment: t,
-            };
-            return raptor_rounds::search(tables, words, marks, n, m, a, reached, left);
+        Direction::Arrival => {
+            return raptor_rounds::search(tables, words, marks, a, reached, left);
         }
     }
 }
 
-// The same, with the areas' stops where `write_places` put them: i in the first half, k in the second.
+// The same, with the areas' stops where `write_places` put them: in the first half of the places, and in the second.
 fn search_in<'a>(
     tables: &'a [u32],
     words: &mut [u32],
     marks: &mut [u64],
     places: &'a [u32],
-    n: u32,
-    m: u32,
+    sizes: Sizes,
+    a: Ask,
     q: Query,
-    i: usize,
-    k: usize,
 ) -> Target
-    requires { ⌜ Tabled (now tables) n m ⌝ }
-    requires { ⌜ Sized n m (now words) (now marks) ⌝ }
-    requires { ⌜ refusal (netOf (now tables)) q ≡ 0 ⌝ }
-    requires { ⌜ Written (netOf (now tables)) q (now places) i k ⌝ }
-    requires { ⌜ n ≤ 4096 ⌝ }
-    requires { ⌜ i ≤ n ⌝ }
-    requires { ⌜ k ≤ n ⌝ }
-    requires { ⌜ length (now places) ≡ n + n ⌝ }
-    ensures { λ g. ⌜ stateOf (view n m (now (words .exit)) (now (marks .exit))) g ≡ searched (netOf (now (tables .entry))) q ⌝ }
-    ensures { λ _. ⌜ Tidy n m (now (words .exit)) (now (marks .exit)) ⌝ }
+    requires { ⌜ Posed (now tables) q a ⌝ }
+    requires { ⌜ Sized (a .stops) (a .routes) (now words) (now marks) ⌝ }
+    requires { ⌜ Written (netOf (now tables)) q (now places) (sizes .origins) (sizes .goals) ⌝ }
+    requires { ⌜ a .stops ≤ 4096 ⌝ }
+    requires { ⌜ sizes .origins ≤ a .stops ⌝ }
+    requires { ⌜ sizes .goals ≤ a .stops ⌝ }
+    requires { ⌜ length (now places) ≡ a .stops + a .stops ⌝ }
+    ensures { λ g. ⌜ stateOf (view (a .stops) (a .routes) (now (words .exit)) (now (marks .exit))) g
+        ≡ searched (netOf (now (tables .entry))) q ⌝ }
+    ensures { λ _. ⌜ Usable (a .stops) (a .routes) (now (words .exit)) (now (marks .exit)) ⌝ }
 {
+    let i = sizes.origins;
+    let k = sizes.goals;
+    let n = a.stops;
     let half = n as usize;
     let end = half + k;
     let origins = &places[..i];
     let goals = &places[half..end];
-    search_for(tables, words, marks, origins, goals, n, m, q)
+    search_for(tables, words, marks, origins, goals, a, q)
 }
 
 // The places written, then the search.
@@ -122,25 +127,23 @@ fn place_and_search(
     words: &mut [u32],
     marks: &mut [u64],
     places: &mut [u32],
-    n: u32,
-    m: u32,
+    a: Ask,
     q: Query,
 ) -> Target
-    requires { ⌜ Tabled (now tables) n m ⌝ }
-    requires { ⌜ Sized n m (now words) (now marks) ⌝ }
-    requires { ⌜ length (now places) ≡ n + n ⌝ }
-    requires { ⌜ refusal (netOf (now tables)) q ≡ 0 ⌝ }
-    ensures { λ g. ⌜ stateOf (view n m (now (words .exit)) (now (marks .exit))) g ≡ searched (netOf (now (tables .entry))) q ⌝ }
-    ensures { λ _. ⌜ Tidy n m (now (words .exit)) (now (marks .exit)) ⌝ }
-    ensures { λ _. ⌜ Sized n m (now (words .exit)) (now (marks .exit)) ⌝ }
-    ensures { λ _. ⌜ now (places .exit) ≡ placed (netOf (now (tables .entry))) (q .from) ++ placed (netOf (now (tables .entry))) (q .to) ⌝ }
+    requires { ⌜ Posed (now tables) q a ⌝ }
+    requires { ⌜ Sized (a .stops) (a .routes) (now words) (now marks) ⌝ }
+    requires { ⌜ length (now places) ≡ a .stops + a .stops ⌝ }
+    ensures { λ g. ⌜ stateOf (view (a .stops) (a .routes) (now (words .exit)) (now (marks .exit))) g
+        ≡ searched (netOf (now (tables .entry))) q ⌝ }
+    ensures { λ _. ⌜ Usable (a .stops) (a .routes) (now (words .exit)) (now (marks .exit)) ⌝ }
+    ensures { λ _. ⌜ now (places .exit)
+        ≡ placed (netOf (now (tables .entry))) (q .from) ++ placed (netOf (now (tables .entry))) (q .to) ⌝ }
 {
+    let n = a.stops;
     let from = q.from;
     let to = q.to;
     let sizes = raptor_query::write_places(tables, places, n, from, to);
-    let i = sizes.origins;
-    let k = sizes.goals;
-    search_in(tables, words, marks, places, n, m, q, i, k)
+    search_in(tables, words, marks, places, sizes, a, q)
 }
 
 // The search and its answer.
@@ -150,19 +153,18 @@ pub fn run(
     marks: &mut [u64],
     places: &mut [u32],
     journey: &mut [u8],
-    n: u32,
-    m: u32,
+    a: Ask,
     q: Query,
 ) -> Answer
-    requires { ⌜ Tabled (now tables) n m ⌝ }
-    requires { ⌜ Sized n m (now words) (now marks) ⌝ }
-    requires { ⌜ length (now places) ≡ n + n ⌝ }
-    requires { ⌜ refusal (netOf (now tables)) q ≡ 0 ⌝ }
+    requires { ⌜ Posed (now tables) q a ⌝ }
+    requires { ⌜ Sized (a .stops) (a .routes) (now words) (now marks) ⌝ }
+    requires { ⌜ length (now places) ≡ a .stops + a .stops ⌝ }
     ensures { λ r. ⌜ Ran (netOf (now (tables .entry))) q (now (journey .entry)) r
         (lent (now (words .exit)) (now (marks .exit)) (now (places .exit)) (now (journey .exit))) ⌝ }
 {
-    let time = q.time;
-    let d = raptor_query::direction_of(time);
-    let g = place_and_search(tables, words, marks, places, n, m, q);
+    let n = a.stops;
+    let m = a.routes;
+    let d = a.direction;
+    let g = place_and_search(tables, words, marks, places, a, q);
     raptor_reply::reply(words, journey, n, m, d, g)
 }

@@ -1,9 +1,6 @@
--- The definitions that the contracts of the round loop cite, and the laws in which they are used.
-pub mod Rounds
+-- The definitions that the contracts of the round loop cite.
 pub mod Stops
 pub mod Targets
-pub mod Starting
 pub mod OneRound
-pub mod Fixed
-pub mod Loop
-pub mod Steps
+pub mod Tabled
+pub mod Asked

@@ -1,38 +1,15 @@
--- A round as the program runs it.
-use Prim.Native.Nat.{ℕ, zero, suc, _+_, _-_, _*_, _≤_, _<_}
-use mathlib.Core.Path.{_≡_, refl, sym, ap, _∙_, subst}
-use mathlib.Core.Bool.{Bool, true, false}
-use mathlib.Core.List.{List, [], _∷_, List·Memᴰ, List·Memᴰ·head, List·Memᴰ·tail, List·Memᴰ·not-nil}
-use native.Mathlib.Omega.{arith}
-use native.Mathlib.Nat.{mul-le-mul-right}
-use lib.ListN.{length, getD}
-use Rattle.base.specs.Each.{Each, nil, cons}
-use Rattle.base.proofs.Each.{each-mem}
+-- A round as the program runs it, and what its parts ask of the state that they find.
+use Prim.Native.Nat.{ℕ, _<_}
+use mathlib.Core.Bool.{Bool}
 use Rattle.model.specs.declared.Direction.{Direction}
 use Rattle.model.specs.declared.Mode.{Mode}
-use Rattle.model.specs.declared.Target.{Target}
 use Rattle.model.specs.Tables.{Net}
-use Rattle.model.specs.Lists.{anyOf, setIn}
-use Rattle.model.specs.State.{Task, task, Labels, Times, State}
-use Rattle.model.specs.Work.{Work, workOf, stateOf}
-use Rattle.model.specs.Round.{aim, listed, picks, opened, ridden, footed, aimed, roundTimes, round, rideHalf, riddenParents}
-use Rattle.model.specs.Search.{begun, ended, search}
-use Rattle.model.specs.Sound.{Sound, Asked}
-use Rattle.model.proofs.Orders.{listed-fair}
-use Rattle.model.proofs.Choosing.{Placed, picks-fit}
-use Rattle.model.proofs.Search.{Inv}
-use Rattle.allocator.specs.Operations.{cleared, swapped, holding}
-use Rattle.allocator.specs.Repeated.{startedAll}
-use Rattle.allocator.proofs.Links.{begun-is, ended-is}
-use Rattle.explorer.specs.Applied.{openedWork}
-use Rattle.explorer_choosing.specs.Chosen.{openedBy}
-use Rattle.explorer_choosing.proofs.Opened.{opened-by}
-use Rattle.explorer_footpaths.specs.Footing.{Footing}
-use Rattle.explorer_footpaths.proofs.Footing.{ridden-footing}
+use Rattle.model.specs.Work.{Work}
+use Rattle.model.specs.Choosing.{Placed}
+use Rattle.allocator.specs.Operations.{holding}
 use Rattle.explorer.specs.Fused.{ridesWork, feetWork}
-use Rattle.explorer.proofs.Fused.{rides-fused, round-fused}
-use Rattle.raptor_rounds.specs.Stops.{Below}
-use Rattle.raptor_rounds.specs.Rounds.{Rounds, rounds-start, rounds-next, rounds-end, rounds-all}
+use Rattle.explorer_choosing.specs.Chosen.{openedBy}
+use Rattle.explorer_footpaths.specs.Footing.{Footing}
 
 unfoldable pub roundWork : Direction → Mode → Bool → Net → ℕ → ℕ → Work → Work
 roundWork d mode walking n k target w = feetWork d n k target walking (holding (ridesWork d n k target (openedBy mode d n w)))
@@ -40,88 +17,5 @@ roundWork d mode walking n k target w = feetWork d n k target walking (holding (
 -- what the parts of a round ask of the state that they find
 pub record Ready (d : Direction) (mode : Mode) (walking : Bool) (n : Net) (k target : ℕ) (w : Work) : Type 0 where
   pub early : k < 15
-  pub placed : Placed d n ((openedBy mode d n w) .active)
+  pub placed : Placed d n (openedBy mode d n w)
   pub footing : Footing (n .stops) (holding (ridesWork d n k target (openedBy mode d n w)))
-
-module _ (n : Net) (d : Direction) (mode : Mode) (walking : Bool) (ss gs : List ℕ) (t : ℕ) where
-  module _ {k : ℕ} {w : Work} {g : Target} (h : Rounds n (task d mode walking ss gs t) k (stateOf w g)) where
-    -- one round of the program is the model's
-    round-is : workOf (round n (task d mode walking ss gs t) listed k (stateOf w g)) ≡ roundWork d mode walking n k (g .time .0) w
-    unfolding roundWork
-    round-is =
-        round-fused n (task d mode walking ss gs t) k (stateOf w g)
-        ∙ ap (λ (u : Work). feetWork d n k (g .time .0) walking (holding (ridesWork d n k (g .time .0) u)))
-        (opened-by n (task d mode walking ss gs t) w)
-
-    aimed-is : (round n (task d mode walking ss gs t) listed k (stateOf w g)) .times .target
-        ≡ aim d k ((workOf (round n (task d mode walking ss gs t) listed k (stateOf w g))) .labels .best) gs g
-    unfolding round roundTimes aimed footed ridden opened
-    aimed-is = refl
-
-    pub round-state : {u : Work} {g′ : Target} → u ≡ roundWork d mode walking n k (g .time .0) w → g′ ≡ aim d k (u .labels .best) gs g
-        → stateOf u g′ ≡ round n (task d mode walking ss gs t) listed k (stateOf w g)
-    round-state {u} {g′} e f =
-        let same : u ≡ workOf (round n (task d mode walking ss gs t) listed k (stateOf w g)) = e ∙ sym round-is in
-        let aims : g′ ≡ (round n (task d mode walking ss gs t) listed k (stateOf w g)) .times .target =
-        f ∙ ap (λ (x : Work). aim d k (x .labels .best) gs g) same ∙ sym aimed-is in
-        λ i. stateOf (same i) (aims i)
-
-    -- what the model knows is what the parts of the round ask
-    pub ready : {target : ℕ} → k < 15 → target ≡ g .time .0 → Ready d mode walking n k target w
-    ready {target} lt e = record {
-      early = lt;
-      placed = unfold openedBy openedWork opened picks in fit;
-      footing = rw e (subst (λ (u : Work). Footing (n .stops) (holding u)) (sym left) foot);
-    }
-      where
-        fit : Placed d n ((picks n (task d mode walking ss gs t) ((stateOf w g) .times)) .active)
-        fit = (picks-fit n (h .sound) (task d mode walking ss gs t) ((stateOf w g) .times) (h .known .placed)) .placed
-
-        fits : k * n .stops + n .stops ≤ length (w .parents)
-        fits = rw (h .known .long) (omega (arith, mul-le-mul-right {m = suc k} {n = 15} (n .stops) lt))
-
-        left : ridesWork d n k (g .time .0) (openedBy mode d n w)
-            ≡ workOf (record {
-              times = ridden n (task d mode walking ss gs t) listed k ((stateOf w g) .times);
-              parents = riddenParents n (task d mode walking ss gs t) listed k ((stateOf w g) .times) (w .parents);
-            })
-        left = unfold openedBy openedWork opened picks ridden riddenParents rideHalf listed in
-            rides-fused d n k (record { times = opened n (task d mode walking ss gs t) ((stateOf w g) .times); parents = w .parents })
-
-        foot : Footing (n .stops) (holding (workOf (record {
-          times = ridden n (task d mode walking ss gs t) listed k ((stateOf w g) .times);
-          parents = riddenParents n (task d mode walking ss gs t) listed k ((stateOf w g) .times) (w .parents);
-        })))
-        foot =
-            ridden-footing n (h .sound) (task d mode walking ss gs t) listed listed-fair k ((stateOf w g) .times) (w .parents) _
-            (h .known .whole) fits (h .known .placed)
-
-    -- the round loop
-    pub search-on : {u : Work} {g′ : Target} {b : Bool} → k < 15 → b ≡ anyOf (w .labels .mark) → b ≡ true
-        → u ≡ roundWork d mode walking n k (g .time .0) w → g′ ≡ aim d k (u .labels .best) gs g
-        → Rounds n (task d mode walking ss gs t) (k + 1) (stateOf u g′)
-    search-on lt eb is e f = rounds-next h lt (sym eb ∙ is) (round-state e f)
-
-    pub search-ends : {u : Work} {b : Bool} → k < 15 → b ≡ anyOf (w .labels .mark) → b ≡ false → u ≡ swapped (n .stops) w
-        → stateOf u g ≡ search n (task d mode walking ss gs t) listed
-    unfolding ended
-    search-ends {u} lt eb is e =
-        rounds-end h lt (sym eb ∙ is)
-        (ap (λ (x : Work). stateOf x g) (e ∙ ended-is n (task d mode walking ss gs t) (stateOf w g)))
-
-    pub search-done : 15 ≤ k → stateOf w g ≡ search n (task d mode walking ss gs t) listed
-    search-done le = rounds-all h le
-
-  below-in : (l : List ℕ) → Below (n .stops) l → (s : ℕ) → List·Memᴰ s l → s < n .stops
-  below-in [] b s m = absurd (List·Memᴰ·not-nil m)
-  below-in (x ∷ l) b s (List·Memᴰ·head e) = rw e (b .below 0 (omega arith))
-  below-in (x ∷ l) b s (List·Memᴰ·tail m) = below-in l (record { below = λ i lt. b .below (suc i) (omega arith) }) s m
-
-  pub search-start : {w u : Work} → Sound n → Below (n .stops) ss → Below (n .stops) gs → 0 < t
-      → u ≡ cleared (n .stops) (n .routes) d → w ≡ startedAll t ss u
-      → Rounds n (task d mode walking ss gs t) 0 (stateOf w (record { stop = 0; round = 0; time = record { 0 = 0 } }))
-  unfolding begun
-  search-start {w} {u} ok a b c e f =
-      rounds-start ok (record { starts-in = below-in ss a; goals-in = below-in gs b; moment = c })
-      (ap (λ (x : Work). stateOf x (record { stop = 0; round = 0; time = record { 0 = 0 } }))
-      (f ∙ ap (startedAll t ss) e ∙ sym (begun-is n (task d mode walking ss gs t))))

@@ -1,26 +1,25 @@
 // The round loop (mod.rs): the search between two lists of stops, equal to the model's.
 ghost use mathlib.Core.Path.{_≡_};
 ghost use Prim.Native.Nat.{_<_};
-ghost use Rattle.model.specs.Round.{aim};
-ghost use Rattle.allocator.specs.Layout.{Words, Sized, view, bestOf};
-ghost use Rattle.allocator.specs.Tidy.{Tidy};
-ghost use Rattle.allocator.specs.Operations.{cleared, holding};
-ghost use Rattle.allocator.specs.Repeated.{startedAll};
-ghost use Rattle.explorer_choosing.specs.Chosen.{openedBy};
-ghost use Rattle.model.specs.State.{task};
-ghost use Rattle.raptor_rounds.specs.OneRound.{roundWork, Ready};
-ghost use Rattle.raptor_rounds.specs.Fixed.{Fixed};
-ghost use Rattle.raptor_rounds.specs.Loop.{At, none};
-ghost use Rattle.repository.specs.Accepted.{Accepted};
-ghost use Rattle.repository.specs.NetOf.{netOf};
-ghost use Rattle.model.proofs.Choosing.{Placed};
-ghost use Rattle.explorer.specs.Fused.{ridesWork, feetWork};
-ghost use Rattle.explorer_footpaths.specs.Footing.{Footing};
+ghost use Rattle.model.specs.Round.{aim, listed};
+ghost use Rattle.model.specs.Search.{search as searchOf};
 ghost use Rattle.model.specs.Work.{stateOf};
-ghost use Rattle.model.specs.Round.{listed};
-ghost use Rattle.model.specs.Search.{search as searched};
+ghost use Rattle.model.specs.Choosing.{Placed};
+ghost use Rattle.repository.specs.NetOf.{netOf};
+ghost use Rattle.allocator.specs.Layout.{Words, Sized, view, bestOf};
+ghost use Rattle.allocator.specs.Does.{Usable, Does};
+ghost use Rattle.allocator.specs.Operations.{holding};
+ghost use Rattle.allocator.specs.Repeated.{startedAll};
+ghost use Rattle.explorer.specs.Fixed.{InRound};
+ghost use Rattle.explorer.specs.Fused.{ridesWork, feetWork};
+ghost use Rattle.explorer_choosing.specs.Chosen.{openedBy};
+ghost use Rattle.explorer_footpaths.specs.Footing.{Footing};
+ghost use Rattle.raptor_rounds.specs.Tabled.{Tabled};
+ghost use Rattle.raptor_rounds.specs.Asked.{taskBetween, Begun};
+ghost use Rattle.raptor_rounds.specs.OneRound.{roundWork, Ready};
 ghost use Rattle.raptor_rounds.specs.Stops.{Below};
 ghost use Rattle.raptor_rounds.specs.Targets.{taken};
+use explorer::Round;
 use model::Direction;
 use model::Mode;
 use model::Target;
@@ -106,11 +105,10 @@ fn target_after(
 
 // Labels and marks every start stop.
 fn start_all(words: &mut [u32], marks: &mut [u64], n: u32, m: u32, starts: &[u32], t: Time)
-    requires { ⌜ Sized n m (now words) (now marks) ⌝ }
-    requires { ⌜ Tidy n m (now words) (now marks) ⌝ }
+    requires { ⌜ Usable n m (now words) (now marks) ⌝ }
     requires { ⌜ Below n (now starts) ⌝ }
-    ensures { λ _. ⌜ view n m (now (words .exit)) (now (marks .exit)) ≡ startedAll (t .0) (now (starts .entry)) (view n m (now (words .entry)) (now (marks .entry))) ⌝ }
-    ensures { λ _. ⌜ Tidy n m (now (words .exit)) (now (marks .exit)) ⌝ }
+    ensures { λ _. ⌜ Does n m (startedAll (t .0) (now (starts .entry)))
+        (now (words .entry)) (now (marks .entry)) (now (words .exit)) (now (marks .exit)) ⌝ }
 {
     let mut i = 0;
     while i < starts.len() {
@@ -119,8 +117,10 @@ fn start_all(words: &mut [u32], marks: &mut [u64], n: u32, m: u32, starts: &[u32
     }
 }
 
-// What a search is asked, beside where it starts and ends.
+// What a search is asked, beside where it starts and ends; with the sizes of its tables and of its workspace.
 pub struct Ask {
+    pub stops: u32,
+    pub routes: u32,
     pub direction: Direction,
     pub mode: Mode,
     pub walking: bool,
@@ -128,204 +128,92 @@ pub struct Ask {
 }
 
 // The rides of a round, as the direction has them.
-fn explore_rides(
-    tables: &[u32],
-    words: &mut [u32],
-    marks: &mut [u64],
-    n: u32,
-    m: u32,
-    k: u32,
-    d: Direction,
-    target: Time,
-)
-    requires { ⌜ Fixed (now tables) n m ⌝ }
-    requires { ⌜ k < 15 ⌝ }
-    requires { ⌜ Sized n m (now words) (now marks) ⌝ }
-    requires { ⌜ Tidy n m (now words) (now marks) ⌝ }
-    requires { ⌜ Placed d (netOf (now tables)) ((view n m (now words) (now marks)) .active) ⌝ }
-    ensures { λ _. ⌜ view n m (now (words .exit)) (now (marks .exit)) ≡ ridesWork d (netOf (now (tables .entry))) k (target .0) (view n m (now (words .entry)) (now (marks .entry))) ⌝ }
-    ensures { λ _. ⌜ Tidy n m (now (words .exit)) (now (marks .exit)) ⌝ }
+fn explore_rides(tables: &[u32], words: &mut [u32], marks: &mut [u64], round: Round)
+    requires { ⌜ InRound (now tables) round ⌝ }
+    requires { ⌜ Usable (round .stops) (round .routes) (now words) (now marks) ⌝ }
+    requires { ⌜ Placed (round .direction) (netOf (now tables)) (view (round .stops) (round .routes) (now words) (now marks)) ⌝ }
+    ensures { λ _. ⌜ Does (round .stops) (round .routes)
+        (ridesWork (round .direction) (netOf (now (tables .entry))) (round .number) (round .target .0))
+        (now (words .entry)) (now (marks .entry)) (now (words .exit)) (now (marks .exit)) ⌝ }
 {
+    let d = round.direction;
     match d {
-        Direction::Departure => explorer_rides::explore_routes(
-            tables,
-            words,
-            marks,
-            n,
-            m,
-            k,
-            target,
-        ),
-        Direction::Arrival => explorer_rides::explore_routes_reverse(
-            tables,
-            words,
-            marks,
-            n,
-            m,
-            k,
-            target,
-        ),
-    }
-}
-
-// The footpaths of a round, as the direction has them.
-fn explore_feet(
-    tables: &[u32],
-    words: &mut [u32],
-    marks: &mut [u64],
-    n: u32,
-    m: u32,
-    k: u32,
-    d: Direction,
-    target: Time,
-    walking: bool,
-)
-    requires { ⌜ Fixed (now tables) n m ⌝ }
-    requires { ⌜ k < 15 ⌝ }
-    requires { ⌜ Sized n m (now words) (now marks) ⌝ }
-    requires { ⌜ Tidy n m (now words) (now marks) ⌝ }
-    requires { ⌜ Footing n (view n m (now words) (now marks)) ⌝ }
-    ensures { λ _. ⌜ view n m (now (words .exit)) (now (marks .exit)) ≡ feetWork d (netOf (now (tables .entry))) k (target .0) walking (view n m (now (words .entry)) (now (marks .entry))) ⌝ }
-    ensures { λ _. ⌜ Tidy n m (now (words .exit)) (now (marks .exit)) ⌝ }
-{
-    match d {
-        Direction::Departure => explorer_footpaths::explore_transfers(
-            tables,
-            words,
-            marks,
-            n,
-            m,
-            k,
-            target,
-            walking,
-        ),
-        Direction::Arrival => explorer_footpaths::explore_transfers_reverse(
-            tables,
-            words,
-            marks,
-            n,
-            m,
-            k,
-            walking,
-        ),
+        Direction::Departure => explorer_rides::explore_routes(tables, words, marks, round),
+        Direction::Arrival => explorer_rides::explore_routes_reverse(tables, words, marks, round),
     }
 }
 
 // The first half: open the round, and ride.
-fn ride_half(
-    tables: &[u32],
-    words: &mut [u32],
-    marks: &mut [u64],
-    n: u32,
-    m: u32,
-    k: u32,
-    a: Ask,
-    target: Time,
-)
-    requires { ⌜ Fixed (now tables) n m ⌝ }
-    requires { ⌜ Sized n m (now words) (now marks) ⌝ }
-    requires { ⌜ Tidy n m (now words) (now marks) ⌝ }
-    requires { ⌜ Ready (a .direction) (a .mode) (a .walking) (netOf (now tables)) k (target .0) (view n m (now words) (now marks)) ⌝ }
-    ensures { λ _. ⌜ view n m (now (words .exit)) (now (marks .exit)) ≡ ridesWork (a .direction) (netOf (now (tables .entry))) k (target .0) (openedBy (a .mode) (a .direction) (netOf (now (tables .entry))) (view n m (now (words .entry)) (now (marks .entry)))) ⌝ }
-    ensures { λ _. ⌜ Tidy n m (now (words .exit)) (now (marks .exit)) ⌝ }
+fn ride_half(tables: &[u32], words: &mut [u32], marks: &mut [u64], round: Round, mode: Mode)
+    requires { ⌜ Tabled (now tables) (round .stops) (round .routes) ⌝ }
+    requires { ⌜ Usable (round .stops) (round .routes) (now words) (now marks) ⌝ }
+    requires { ⌜ Ready (round .direction) mode (round .walking) (netOf (now tables)) (round .number) (round .target .0)
+        (view (round .stops) (round .routes) (now words) (now marks)) ⌝ }
+    ensures { λ _. ⌜ Does (round .stops) (round .routes)
+        (λ v. ridesWork (round .direction) (netOf (now (tables .entry))) (round .number) (round .target .0)
+        (openedBy mode (round .direction) (netOf (now (tables .entry))) v))
+        (now (words .entry)) (now (marks .entry)) (now (words .exit)) (now (marks .exit)) ⌝ }
 {
-    let d = a.direction;
-    let mode = a.mode;
+    let n = round.stops;
+    let m = round.routes;
+    let d = round.direction;
     explorer_choosing::open_round(tables, words, marks, n, m, mode, d);
-    explore_rides(tables, words, marks, n, m, k, d, target);
+    explore_rides(tables, words, marks, round);
 }
 
 // The second half: hold what the rides left, and walk.
-fn foot_half(
-    tables: &[u32],
-    words: &mut [u32],
-    marks: &mut [u64],
-    n: u32,
-    m: u32,
-    k: u32,
-    a: Ask,
-    target: Time,
-)
-    requires { ⌜ Fixed (now tables) n m ⌝ }
-    requires { ⌜ Sized n m (now words) (now marks) ⌝ }
-    requires { ⌜ Tidy n m (now words) (now marks) ⌝ }
-    requires { ⌜ k < 15 ⌝ }
-    requires { ⌜ Footing n (holding (view n m (now words) (now marks))) ⌝ }
-    ensures { λ _. ⌜ view n m (now (words .exit)) (now (marks .exit)) ≡ feetWork (a .direction) (netOf (now (tables .entry))) k (target .0) (a .walking) (holding (view n m (now (words .entry)) (now (marks .entry)))) ⌝ }
-    ensures { λ _. ⌜ Tidy n m (now (words .exit)) (now (marks .exit)) ⌝ }
+fn foot_half(tables: &[u32], words: &mut [u32], marks: &mut [u64], round: Round)
+    requires { ⌜ Tabled (now tables) (round .stops) (round .routes) ⌝ }
+    requires { ⌜ Usable (round .stops) (round .routes) (now words) (now marks) ⌝ }
+    requires { ⌜ round .number < 15 ⌝ }
+    requires { ⌜ Footing (round .stops) (holding (view (round .stops) (round .routes) (now words) (now marks))) ⌝ }
+    ensures { λ _. ⌜ Does (round .stops) (round .routes)
+        (λ v. feetWork (round .direction) (netOf (now (tables .entry))) (round .number) (round .target .0) (round .walking) (holding v))
+        (now (words .entry)) (now (marks .entry)) (now (words .exit)) (now (marks .exit)) ⌝ }
 {
-    let d = a.direction;
-    let walking = a.walking;
+    let n = round.stops;
+    let m = round.routes;
     allocator::hold(words, marks, n, m);
-    explore_feet(tables, words, marks, n, m, k, d, target, walking);
+    explorer_footpaths::explore_transfers(tables, words, marks, round);
 }
 
-// One round: both halves.
-fn run_round(
-    tables: &[u32],
-    words: &mut [u32],
-    marks: &mut [u64],
-    n: u32,
-    m: u32,
-    k: u32,
-    a: Ask,
-    target: Time,
-)
-    requires { ⌜ Fixed (now tables) n m ⌝ }
-    requires { ⌜ Sized n m (now words) (now marks) ⌝ }
-    requires { ⌜ Tidy n m (now words) (now marks) ⌝ }
-    requires { ⌜ Ready (a .direction) (a .mode) (a .walking) (netOf (now tables)) k (target .0) (view n m (now words) (now marks)) ⌝ }
-    ensures { λ _. ⌜ view n m (now (words .exit)) (now (marks .exit)) ≡ roundWork (a .direction) (a .mode) (a .walking) (netOf (now (tables .entry))) k (target .0) (view n m (now (words .entry)) (now (marks .entry))) ⌝ }
-    ensures { λ _. ⌜ Tidy n m (now (words .exit)) (now (marks .exit)) ⌝ }
-{
-    ride_half(tables, words, marks, n, m, k, a, target);
-    foot_half(tables, words, marks, n, m, k, a, target);
-}
-
-// One round and its end: the target after it.
+// One round, both halves, and its end: the target after it.
 fn next_round(
     tables: &[u32],
     words: &mut [u32],
     marks: &mut [u64],
-    n: u32,
-    m: u32,
     k: u32,
     a: Ask,
     goals: &[u32],
     g: Target,
 ) -> Target
-    requires { ⌜ Fixed (now tables) n m ⌝ }
-    requires { ⌜ Sized n m (now words) (now marks) ⌝ }
-    requires { ⌜ Tidy n m (now words) (now marks) ⌝ }
-    requires { ⌜ Ready (a .direction) (a .mode) (a .walking) (netOf (now tables)) k (g .time .0) (view n m (now words) (now marks)) ⌝ }
-    requires { ⌜ Below n (now goals) ⌝ }
-    ensures { λ _. ⌜ view n m (now (words .exit)) (now (marks .exit)) ≡ roundWork (a .direction) (a .mode) (a .walking) (netOf (now (tables .entry))) k (g .time .0) (view n m (now (words .entry)) (now (marks .entry))) ⌝ }
-    ensures { λ r. ⌜ r ≡ aim (a .direction) k (bestOf n m (now (words .exit))) (now (goals .entry)) g ⌝ }
-    ensures { λ _. ⌜ Tidy n m (now (words .exit)) (now (marks .exit)) ⌝ }
+    requires { ⌜ Tabled (now tables) (a .stops) (a .routes) ⌝ }
+    requires { ⌜ Usable (a .stops) (a .routes) (now words) (now marks) ⌝ }
+    requires { ⌜ Ready (a .direction) (a .mode) (a .walking) (netOf (now tables)) k (g .time .0)
+        (view (a .stops) (a .routes) (now words) (now marks)) ⌝ }
+    requires { ⌜ Below (a .stops) (now goals) ⌝ }
+    ensures { λ _. ⌜ Does (a .stops) (a .routes)
+        (roundWork (a .direction) (a .mode) (a .walking) (netOf (now (tables .entry))) k (g .time .0))
+        (now (words .entry)) (now (marks .entry)) (now (words .exit)) (now (marks .exit)) ⌝ }
+    ensures { λ r. ⌜ r ≡ aim (a .direction) k (bestOf (a .stops) (a .routes) (now (words .exit))) (now (goals .entry)) g ⌝ }
 {
-    let seen = g.time;
+    let n = a.stops;
+    let m = a.routes;
     let d = a.direction;
-    run_round(tables, words, marks, n, m, k, a, seen);
+    let mode = a.mode;
+    let walking = a.walking;
+    let seen = g.time;
+    let round = Round {
+        stops: n,
+        routes: m,
+        number: k,
+        direction: d,
+        target: seen,
+        walking: walking,
+    };
+    ride_half(tables, words, marks, round, mode);
+    foot_half(tables, words, marks, round);
     target_after(words, n, m, d, k, goals, g)
-}
-
-// The workspace as the search begins.
-fn begin(
-    words: &mut [u32],
-    marks: &mut [u64],
-    n: u32,
-    m: u32,
-    d: Direction,
-    starts: &[u32],
-    t: Time,
-)
-    requires { ⌜ Sized n m (now words) (now marks) ⌝ }
-    requires { ⌜ Below n (now starts) ⌝ }
-    ensures { λ _. ⌜ view n m (now (words .exit)) (now (marks .exit)) ≡ startedAll (t .0) (now (starts .entry)) (cleared n m d) ⌝ }
-    ensures { λ _. ⌜ Tidy n m (now (words .exit)) (now (marks .exit)) ⌝ }
-{
-    allocator::clear(words, marks, n, m, d);
-    start_all(words, marks, n, m, starts, t);
 }
 
 // The rounds, fewer than 15 where nothing is marked.
@@ -333,16 +221,14 @@ fn rounds(
     tables: &[u32],
     words: &mut [u32],
     marks: &mut [u64],
-    n: u32,
-    m: u32,
     a: Ask,
     starts: &[u32],
     goals: &[u32],
 ) -> Target
-    requires { ⌜ Sized n m (now words) (now marks) ⌝ }
-    requires { ⌜ At (now tables) n m (task (a .direction) (a .mode) (a .walking) (now starts) (now goals) (a .moment .0)) 0 (now words) (now marks) none ⌝ }
-    ensures { λ g. ⌜ stateOf (view n m (now (words .exit)) (now (marks .exit))) g ≡ searched (netOf (now (tables .entry))) (task (a .direction) (a .mode) (a .walking) (now (starts .entry)) (now (goals .entry)) (a .moment .0)) listed ⌝ }
-    ensures { λ _. ⌜ Tidy n m (now (words .exit)) (now (marks .exit)) ⌝ }
+    requires { ⌜ Begun (now tables) a (now starts) (now goals) (now words) (now marks) ⌝ }
+    ensures { λ g. ⌜ stateOf (view (a .stops) (a .routes) (now (words .exit)) (now (marks .exit))) g
+        ≡ searchOf (netOf (now (tables .entry))) (taskBetween a (now (starts .entry)) (now (goals .entry))) listed ⌝ }
+    ensures { λ _. ⌜ Usable (a .stops) (a .routes) (now (words .exit)) (now (marks .exit)) ⌝ }
 {
     let mut g = Target {
         stop: 0,
@@ -351,9 +237,11 @@ fn rounds(
     };
     let mut k: u32 = 0;
     while k < 15 {
+        let n = a.stops;
+        let m = a.routes;
         let any = allocator::any_marked(marks, n, m);
         if any {
-            g = next_round(tables, words, marks, n, m, k, a, goals, g);
+            g = next_round(tables, words, marks, k, a, goals, g);
             k += 1;
         } else {
             allocator::swap_labels(words, marks, n, m);
@@ -369,22 +257,24 @@ pub fn search(
     tables: &[u32],
     words: &mut [u32],
     marks: &mut [u64],
-    n: u32,
-    m: u32,
     a: Ask,
     starts: &[u32],
     goals: &[u32],
 ) -> Target
-    requires { ⌜ Fixed (now tables) n m ⌝ }
-    requires { ⌜ Sized n m (now words) (now marks) ⌝ }
-    requires { ⌜ Below n (now starts) ⌝ }
-    requires { ⌜ Below n (now goals) ⌝ }
+    requires { ⌜ Tabled (now tables) (a .stops) (a .routes) ⌝ }
+    requires { ⌜ Sized (a .stops) (a .routes) (now words) (now marks) ⌝ }
+    requires { ⌜ Below (a .stops) (now starts) ⌝ }
+    requires { ⌜ Below (a .stops) (now goals) ⌝ }
     requires { ⌜ 0 < a .moment .0 ⌝ }
-    ensures { λ g. ⌜ stateOf (view n m (now (words .exit)) (now (marks .exit))) g ≡ searched (netOf (now (tables .entry))) (task (a .direction) (a .mode) (a .walking) (now (starts .entry)) (now (goals .entry)) (a .moment .0)) listed ⌝ }
-    ensures { λ _. ⌜ Tidy n m (now (words .exit)) (now (marks .exit)) ⌝ }
+    ensures { λ g. ⌜ stateOf (view (a .stops) (a .routes) (now (words .exit)) (now (marks .exit))) g
+        ≡ searchOf (netOf (now (tables .entry))) (taskBetween a (now (starts .entry)) (now (goals .entry))) listed ⌝ }
+    ensures { λ _. ⌜ Usable (a .stops) (a .routes) (now (words .exit)) (now (marks .exit)) ⌝ }
 {
+    let n = a.stops;
+    let m = a.routes;
     let d = a.direction;
     let t = a.moment;
-    begin(words, marks, n, m, d, starts, t);
-    rounds(tables, words, marks, n, m, a, starts, goals)
+    allocator::clear(words, marks, n, m, d);
+    start_all(words, marks, n, m, starts, t);
+    rounds(tables, words, marks, a, starts, goals)
 }

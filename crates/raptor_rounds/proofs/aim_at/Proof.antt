@@ -1,6 +1,6 @@
 -- `raptor_rounds::aim_at` meets its contract: one goal: taken where it is strictly better.
 use borrow.Author.Needs.{needs}
-use Rattle.raptor_rounds.specs.Targets.{taken-yes, taken-no}
+use Rattle.raptor_rounds.proofs.Targets.{taken-yes, taken-no}
 use Rattle.raptor_rounds.proofs.aim_at.Statement.{statement}
 use Rattle.raptor_rounds.proofs.aim_at.Tie as tie
 

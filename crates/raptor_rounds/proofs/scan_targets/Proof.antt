@@ -3,8 +3,8 @@ use borrow.Author.Needs.{needs}
 use Prim.Native.Nat.{_-_}
 use lib.ListN.{length}
 use Rattle.allocator.specs.Layout.{bestOf}
-use Rattle.raptor_rounds.specs.Stops.{stop-below}
-use Rattle.raptor_rounds.specs.Targets.{Scanned, scanned-none, scanned-on, scanned-all}
+use Rattle.raptor_rounds.proofs.Stops.{stop-below}
+use Rattle.raptor_rounds.proofs.Targets.{Scanned, scanned-none, scanned-on, scanned-all}
 use Rattle.raptor_rounds.proofs.scan_targets.Statement.{statement}
 use Rattle.raptor_rounds.proofs.scan_targets.Tie as tie
 

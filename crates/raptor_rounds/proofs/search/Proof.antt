@@ -1,14 +1,22 @@
--- `raptor_rounds::search` meets its contract: the beginning, then the rounds.
+-- `raptor_rounds::search` meets its contract: the workspace cleared, the start stops, then the rounds.
 use borrow.Author.Needs.{needs}
-use Rattle.raptor_rounds.specs.Loop.{at-start}
+use Rattle.raptor_rounds.proofs.Loop.{begun}
 use Rattle.raptor_rounds.proofs.search.Statement.{statement}
 use Rattle.raptor_rounds.proofs.search.Tie as tie
 
-begin-requires : tie.Need-begin-requires
-begin-requires c κs = search needs
+clear-requires : tie.Need-clear-requires
+clear-requires c κs = search needs
+
+start-all-requires : tie.Need-start-all-requires
+start-all-requires c κs = (search needs, search needs)
 
 rounds-requires : tie.Need-rounds-requires
-rounds-requires c κs = (search needs, search (needs, at-start))
+rounds-requires c κs =
+    let start = c .before .before .before .before .before .before .before .before .before .before .before .before .before .before .before .before .before .before .before .before .before .before in
+    let cleared = c .before .before .before .before .before .before .before .before .before .before .before .before .before .clear in
+    let started = c .before .before .before .before .before .before .start-all in
+    begun (start .args .a) (start .pre .0) (start .pre .1 .1 .0) (start .pre .1 .1 .1 .0) (start .pre .1 .1 .1 .1) (cleared .ensures)
+    (started .ensures)
 
 same-length : tie.Need-same-length
 same-length c = search needs
@@ -20,4 +28,4 @@ returns : tie.Need-returns
 returns c = search needs
 
 pub search-spec : {M : Type 1} → statement M
-search-spec = tie.close (tie.spec begin-requires rounds-requires same-length same-length-2 returns)
+search-spec = tie.close (tie.spec clear-requires start-all-requires rounds-requires same-length same-length-2 returns)

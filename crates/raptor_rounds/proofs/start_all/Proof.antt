@@ -4,15 +4,15 @@ use Prim.Native.Nat.{_-_}
 use mathlib.Core.Path.{_≡_}
 use lib.ListN.{length}
 use Rattle.allocator.specs.Layout.{view}
-use Rattle.allocator.specs.Tidy.{Tidy}
-use Rattle.raptor_rounds.specs.Stops.{stop-below}
-use Rattle.raptor_rounds.specs.Starting.{Starting, starting-none, starting-on, starting-all}
+use Rattle.allocator.specs.Does.{Usable}
+use Rattle.raptor_rounds.proofs.Stops.{stop-below}
+use Rattle.raptor_rounds.proofs.Starting.{Starting, starting-none, starting-on, starting-all}
 use Rattle.raptor_rounds.proofs.start_all.Statement.{statement}
 use Rattle.raptor_rounds.proofs.start_all.Tie as tie
 
 abbrev Inv-loop : tie.InvT-loop
 Inv-loop words₀ marks₀ n m starts t i₀ words marks i =
-    Starting (t .0) starts (view n m words₀ marks₀) (view n m words marks) i × Tidy n m words marks
+    Starting (t .0) starts (view n m words₀ marks₀) (view n m words marks) i × Usable n m words marks
     × (length words ≡ length words₀) × (length marks ≡ length marks₀)
 
 abbrev μ-loop : tie.MeasureT-loop
@@ -28,7 +28,7 @@ shared-slice-read-start : tie.Need-shared-slice-read-start Inv-loop μ-loop
 shared-slice-read-start c = search needs
 
 start-requires : tie.Need-start-requires Inv-loop μ-loop
-start-requires c κs = (search needs, (search needs, search (needs, stop-below)))
+start-requires c κs = (search needs, search (needs, stop-below))
 
 add-i : tie.Need-add-i Inv-loop μ-loop
 add-i c = search needs
@@ -46,7 +46,7 @@ same-length-2 : tie.Need-same-length-2 Inv-loop μ-loop
 same-length-2 c = search needs
 
 returns : tie.Need-returns Inv-loop μ-loop
-returns c = (search (needs, starting-all), search needs)
+returns c = record { holds = search (needs, starting-all); usable = search needs }
 
 pub start-all-spec : {M : Type 1} → statement M
 start-all-spec =

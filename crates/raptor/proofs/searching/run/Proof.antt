@@ -1,22 +1,18 @@
 -- `raptor::searching::run` meets its contract: the search, then the reply.
 use borrow.Author.Needs.{needs}
-use Rattle.raptor.proofs.Told.{sized-words, is-chosen, ran}
+use Rattle.raptor.proofs.Told.{is-chosen, ran}
 use Rattle.raptor.proofs.searching.run.Statement.{statement}
 use Rattle.raptor.proofs.searching.run.Tie as tie
-
-direction-of-requires : tie.Need-direction-of-requires
-direction-of-requires c κs = search needs
 
 place-and-search-requires : tie.Need-place-and-search-requires
 place-and-search-requires c κs = search needs
 
 reply-requires : tie.Need-reply-requires
 reply-requires c κs =
-    let start = c .before .before .before .before .before .before .before .before .before .before .before .before .before .before .before .before .before .before in
-    let found = c .before .before .before .before .before .before .before .before .place-and-search in
-    let facing = c .before .before .before .before .before .before .before .before .before .before .before .before .direction-of in (
-      sized-words (found .ensures .1 .1 .0),
-      is-chosen (start .pre .0) (start .args .q) (start .pre .1 .1 .1) (found .last .1 .0) (found .last .1 .1 .0) (found .ensures .0) (facing .ensures),
+    let start = c .before .before .before .before .before .before .before .before .before .before .before .before .before .before .before .before .before in
+    let found = c .before .before .before .before .before .before .before .before .place-and-search in (
+      found .ensures .1 .0 .sized .words,
+      is-chosen (start .pre .0) (found .last .1 .0) (found .last .1 .1 .0) (found .ensures .0),
     )
 
 same-length : tie.Need-same-length
@@ -33,18 +29,15 @@ same-length-4 c = search needs
 
 returns : tie.Need-returns
 returns c =
-    let start = c .before .before .before .before .before .before .before .before .before .before .before .before .before .before .before .before .before .before .before .before .before in
+    let start = c .before .before .before .before .before .before .before .before .before .before .before .before .before .before .before .before .before .before .before .before in
     let found = c .before .before .before .before .before .before .before .before .before .before .before .place-and-search in
-    let facing = c .before .before .before .before .before .before .before .before .before .before .before .before .before .before .before .direction-of in
     let told = c .before .before .reply in
-    ran (start .pre .0) (start .args .q) (start .pre .1 .1 .1) (found .last .1 .0) (found .last .1 .1 .0) (found .ensures .0) (facing .ensures)
-    _ (found .ensures .1 .1 .1) (found .ensures .1 .1 .0) (found .ensures .1 .0) (told .ensures .0) (told .ensures .1)
+    ran (start .pre .0) (found .last .1 .0) (found .last .1 .1 .0) (found .ensures .0) _ (found .ensures .1 .1) (found .ensures .1 .0) (told .ensures .0) (told .ensures .1)
 
 pub run-spec : {M : Type 1} → statement M
 run-spec =
     tie.close
     (tie.spec
-    direction-of-requires
     place-and-search-requires
     reply-requires
     same-length

@@ -4,6 +4,9 @@ use Rattle.raptor.proofs.Placing.{part-length, place-from, place-to}
 use Rattle.raptor.proofs.searching.search_in.Statement.{statement}
 use Rattle.raptor.proofs.searching.search_in.Tie as tie
 
+cast-half : tie.Need-cast-half
+cast-half c = search needs
+
 add-end : tie.Need-add-end
 add-end c = search needs
 
@@ -23,7 +26,7 @@ part-goals-end : tie.Need-part-goals-end
 part-goals-end c = search needs
 
 search-for-requires : tie.Need-search-for-requires
-search-for-requires c κs = (search needs, (search needs, (search needs, (search (needs, place-from), search (needs, place-to)))))
+search-for-requires c κs = (search needs, (search needs, (search (needs, place-from), search (needs, place-to))))
 
 same-length : tie.Need-same-length
 same-length c = search needs
@@ -38,6 +41,7 @@ pub search-in-spec : {M : Type 1} → statement M
 search-in-spec =
     tie.close
     (tie.spec
+    cast-half
     add-end
     slice-aggregate-origins
     mul-goals
