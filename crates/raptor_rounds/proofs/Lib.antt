@@ -7,5 +7,5 @@ pub mod Rest
 pub mod OneRound
 pub mod Steps
 pub mod Loop
-pub mod Lent
+pub mod Passing
 pub mod Unique

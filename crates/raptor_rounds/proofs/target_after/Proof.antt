@@ -46,9 +46,9 @@ use denote.Triple.Walked.{says, Stays, stay-none, walkOf, goes-none, Walks, ends
 use Rattle.model.specs.declared.Target.{Target}
 use Rattle.model.proofs.Target as T
 use Rattle.model.proofs.Target.Laws as T′
-use Rattle.raptor_rounds.proofs.Lent.{Passing, passing, Laid, Under, found, with-last, vals-with, Row, mach, typed}
-use Rattle.raptor_rounds.proofs.Lent.{lies-in, lies-out, All, Six, six-out, six-in, Two, Three, third-out, third-in}
-use Rattle.raptor_rounds.proofs.Lent.{needs-two, says-two, spells, tells, fit, stays, all-go, held, releases}
+use Rattle.raptor_rounds.proofs.Passing.{Passing, passing, Laid, Under, found, with-last, vals-with, Row, mach, typed}
+use Rattle.raptor_rounds.proofs.Passing.{lies-in, lies-out, All, Six, six-out, six-in, Two, Three, third-out, third-in}
+use Rattle.raptor_rounds.proofs.Passing.{needs-two, says-two, spells, tells, fit, stays, all-go, held, releases}
 use Rattle.raptor_rounds.proofs.update_target as update
 use Rattle.raptor_rounds.proofs.update_target.Symbol as update-def
 use Rattle.raptor_rounds.proofs.update_target.Symbol.{name as #raptor-rounds·update-target}

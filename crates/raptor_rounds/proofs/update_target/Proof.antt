@@ -42,9 +42,9 @@ use denote.Triple.Walked.{says, Stays, stay-ref, walkOf, goes-ref, Walks, ends-a
 use Rattle.model.specs.declared.Target.{Target}
 use Rattle.model.proofs.Target as T
 use Rattle.model.proofs.Target.Laws as T′
-use Rattle.raptor_rounds.proofs.Lent.{Passing, passing, Laid, Under, found, with-last, vals-with, Row, mach, typed}
-use Rattle.raptor_rounds.proofs.Lent.{All, Six, six-out, six-in, Two, Three, third-out, third-in, needs-two, says-two}
-use Rattle.raptor_rounds.proofs.Lent.{spells, tells, fit, stays, all-go, held, releases}
+use Rattle.raptor_rounds.proofs.Passing.{Passing, passing, Laid, Under, found, with-last, vals-with, Row, mach, typed}
+use Rattle.raptor_rounds.proofs.Passing.{All, Six, six-out, six-in, Two, Three, third-out, third-in, needs-two, says-two}
+use Rattle.raptor_rounds.proofs.Passing.{spells, tells, fit, stays, all-go, held, releases}
 use Rattle.raptor_rounds.proofs.scan_targets as scan
 use Rattle.raptor_rounds.proofs.scan_targets.Symbol as scan-def
 use Rattle.raptor_rounds.proofs.scan_targets.Symbol.{name as #raptor-rounds·scan-targets}
