@@ -17,6 +17,7 @@ use Rattle.model.specs.Rides.{firstTrip, lastTrip, catch, allows, boarded}
 use Rattle.repository.specs.Accepted.{Accepted, Timed}
 use Rattle.repository.specs.NetOf.{netOf}
 use Rattle.repository.specs.Rows.{TripOf, timeRow, tripCount}
+use Rattle.repository.proofs.Asked.{accepted-timed}
 use Rattle.repository.proofs.Trips.{trip-known}
 use Rattle.discovery.specs.declared.Trip.{Trip}
 use Rattle.discovery.specs.declared.Trip.the-variants.{At, Nothing}
@@ -135,5 +136,5 @@ pub board-absent : (d : Direction) (w : List ℕ) (here : Call) (a : Aboard) {x 
     → a ≡ boardAt d (netOf w) (here .route) (here .position) x a
 unfolding boardAt
 board-absent d w here a h e =
-    rw (e, catch-absent (h .accepted .timed) (here .route) (here .position) (h .route) (h .position) d)
+    rw (e, catch-absent (accepted-timed (h .accepted)) (here .route) (here .position) (h .route) (h .position) d)
     (stay-none (allows d (netOf w) (reading d 0) (here .position) a) (here .position) a)

@@ -1,5 +1,5 @@
 -- A ride as the scan carries it, and what stands fixed along a route.
-use Prim.Native.Nat.{ℕ, _<_}
+use Prim.Native.Nat.{ℕ, zero, suc, _<_}
 use mathlib.Core.Path.{_≡_}
 use mathlib.Core.Logic.{_≢_}
 use mathlib.Core.Bool.{Bool, cond}
@@ -20,6 +20,7 @@ use Rattle.repository.specs.Accepted.{Accepted}
 use Rattle.repository.specs.Sections.{arrivalIn, departureIn}
 use Rattle.repository.specs.NetOf.{netOf}
 use Rattle.repository.specs.Rows.{TripOf, timeRow}
+use Rattle.discovery.specs.Trips.{tripPlace}
 use Rattle.discovery.specs.declared.Trip.{Trip}
 use Rattle.discovery.specs.declared.Trip.the-variants.{At, Nothing}
 use Rattle.explorer.specs.declared.Round.{Round}
@@ -66,6 +67,14 @@ pub record OnRoute (w : List ℕ) (here : Call) : Type 0 where
 -- the model's `board` where the label of the round before is x
 unfoldable pub boardAt : Direction → Net → ℕ → ℕ → ℕ → Aboard → Aboard
 boardAt d n r p x a = cond (allows d n (reading d x) p a) (boarded p a (catch d n r p (reading d x))) a
+
+-- the ride that goes on from a call where the label of the round before is x: the trip that the label catches, where it allows one
+unfoldable pub onward : Direction → List ℕ → Call → ℕ → Ride → Ride
+onward d w here zero a = a
+onward d w here (suc k) a =
+    cond (allows d (netOf w) (suc k) (here .position) (aboard a))
+    (caught w (here .route) (here .position) a (tripPlace d (netOf w) (here .route) (here .position) (suc k)))
+    a
 
 -- when the trip whose times begin at the row comes to position p, and when it goes on from there, as the search goes
 abbrev pub reachIn : Direction → List ℕ → ℕ → ℕ → ℕ
