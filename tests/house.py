@@ -12,9 +12,7 @@ WIDEST, MOST = 140, 7
 DECISIONS, PROVING = "docs/DECISIONS.md", "docs/PROVING.md"
 # A name that the definitions of some crates share: which (`one two`), and why they may. Any other crate's is refused all the same, and so is a file that
 # cites two of them.
-TWICE = {
-    "Chosen": ("model raptor_reply", "the routes that are chosen, and the stop that is: document 01 has one word for both"),
-}
+TWICE = {"Chosen": ("model raptor_reply", "the routes that are chosen, and the stop that is: document 01 has one word for both")}
 # A law or a definition that nothing reaches, and why it stays.
 ALONE = {}
 NAME = r"[^\s(){}⌜⌝«»,;:\[\]λ.]+"
