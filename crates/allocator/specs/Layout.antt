@@ -10,6 +10,7 @@ use lib.ListN.{length}
 use Rattle.base.specs.Tab.{tab}
 use Rattle.marks.specs.Marks.{marked}
 use Rattle.model.specs.declared.Leg.{Leg}
+use Rattle.model.specs.Limits.{MOST-STOPS, MOST-ROUTES}
 use Rattle.model.specs.Work.{Work}
 use Rattle.allocator.specs.Sections.{sect}
 use Rattle.allocator.specs.Rows.{parents}
@@ -27,13 +28,13 @@ marksRoom s r = 2 * pages s + pages r
 
 -- "Most: 4,096 stops, 1,024 routes": no place below overflows
 pub record Words (s r : ℕ) (w : List ℕ) : Type 0 where
-  pub most-stops : s ≤ 4096
-  pub most-routes : r ≤ 1024
+  pub most-stops : s ≤ MOST-STOPS
+  pub most-routes : r ≤ MOST-ROUTES
   pub words-length : length w ≡ 94 * s + r
 
 pub record Marks (s r : ℕ) (m : List ℕ) : Type 0 where
-  pub most-stops : s ≤ 4096
-  pub most-routes : r ≤ 1024
+  pub most-stops : s ≤ MOST-STOPS
+  pub most-routes : r ≤ MOST-ROUTES
   pub marks-length : length m ≡ 2 * pages s + pages r
 
 -- both slices have the length that the tables ask for

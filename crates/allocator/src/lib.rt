@@ -9,6 +9,7 @@ ghost use mathlib.Core.Path.{_≡_};
 ghost use Prim.Native.Nat.{_+_, _-_, _*_, _<_, _≤_};
 ghost use lib.ListN.{length, getD, set, replicate};
 ghost use Rattle.marks.specs.Marks.{firstOf};
+ghost use Rattle.model.specs.Limits.{MOST-STOPS, MOST-ROUTES};
 ghost use Rattle.model.specs.Choosing.{sooner};
 ghost use Rattle.model.specs.Lists.{anyOf};
 ghost use Rattle.model.specs.Legs.{legOf};
@@ -243,7 +244,7 @@ pub fn active_at(words: &[u32], n: u32, m: u32, r: u32) -> u32
 
 // Where the parent of stop s in round k stands. The one product of two numbers is here.
 fn row_at(n: u32, m: u32, k: u32, s: u32) -> usize
-    requires { ⌜ (n ≤ 4096) × (m ≤ 1024) ⌝ }
+    requires { ⌜ (n ≤ MOST-STOPS) × (m ≤ MOST-ROUTES) ⌝ }
     requires { ⌜ s < n ⌝ }
     requires { ⌜ k < 15 ⌝ }
     ensures { λ i. ⌜ i ≡ 4 * n + m + (k * n + s) * 6 ⌝ }

@@ -7,3 +7,4 @@ pub mod Tab
 pub mod Bits
 pub mod Each
 pub mod Distinct
+pub mod Below

@@ -14,8 +14,10 @@ use Rattle.repository.specs.Accepted.{Accepted}
 use Rattle.repository.specs.NetOf.{netOf}
 use Rattle.repository.proofs.Ranges.{stops-few}
 use Rattle.repository.proofs.Areas.{child-known, named-stop, area-fits}
-use Rattle.discovery.specs.Served.{puts, areaRest, Stops, Tally, Filling}
-use Rattle.discovery.proofs.Counting.{next, tally-room, tally-start, filling-start}
+use Rattle.base.specs.Below.{Below}
+use Rattle.base.proofs.Below.{left-at}
+use Rattle.discovery.specs.Served.{puts, areaRest, Tally, Filling}
+use Rattle.discovery.proofs.Counting.{tally-room, tally-start, filling-start}
 
 -- ---- what is named, and its children, are stops
 
@@ -25,15 +27,15 @@ pub named-known : {w : List ℕ} {a : ℕ} {named : List ℕ} (i : ℕ) → Acce
 named-known i h l e g = rw e (named-stop h l i (rw e at g))
 
 pub children-stops : {w : List ℕ} {s : ℕ} {q : List ℕ} → Accepted w → s < netOf w .stops → q ≡ netOf w .children s
-    → Stops (netOf w) q
-children-stops h l e = record { each = rw e (child-known h l) }
+    → Below (netOf w .stops) q
+children-stops h l e = record { below = rw e (child-known h l) }
 
 -- ---- what is left: the served children of the next, then the others
 
 module _ (n : Net) (named : List ℕ) (i : ℕ) (g : i < length named) where
   rest-next : areaRest n named i ≡ servedOf n (n .children (getD named i 0)) ++ areaRest n named (i + 1)
   unfolding areaRest gather
-  rest-next = ap (gather (λ (s : ℕ). servedOf n (n .children s))) (next named i g)
+  rest-next = ap (gather (λ (s : ℕ). servedOf n (n .children s))) (left-at named i g)
 
   pub rest-part : {q : List ℕ} → q ≡ n .children (getD named i 0)
       → areaRest n named i ≡ servedOf n q ++ areaRest n named (i + 1)

@@ -4,14 +4,14 @@ use mathlib.Core.Path.{_≡_, refl, sym, ap, _∙_}
 use mathlib.Core.Bool.{Bool, true, false}
 use mathlib.Core.List.{List, [], _∷_, _++_}
 use native.Mathlib.Omega.{arith}
-use native.Mathlib.Numerals.{add-one}
 use native.Mathlib.Nat.{add-zero, add-suc, suc-add}
 use lib.ListN.{length, getD, set, drop, length-append, drop-of-length-le}
-use lib.Seq.{sets, drop-cons}
+use lib.Seq.{sets}
 use Rattle.base.proofs.Choice.{split}
 use Rattle.model.specs.Tables.{Net}
 use Rattle.model.specs.Places.{servedOf}
-use Rattle.discovery.specs.Served.{puts, Stops, Tally, Filling}
+use Rattle.base.proofs.Below.{left-at}
+use Rattle.discovery.specs.Served.{puts, Tally, Filling}
 
 -- ---- one stop
 
@@ -48,11 +48,6 @@ module _ (n : Net) (s : ℕ) {b : Bool} (e : b ≡ n .served s) where
   pub next-none : (k : ℕ) → b ≡ false → k ≡ k + length (servedOf n (s ∷ []))
   next-none k t = omega (arith, count-none t)
 
--- ---- the next of a list
-
-pub next : (l : List ℕ) (i : ℕ) → i < length l → drop i l ≡ getD l i 0 ∷ drop (i + 1) l
-next l i g = rw (add-one, drop-cons l i 0)
-
 served-split : (n : Net) (s : ℕ) (l : List ℕ) → servedOf n (s ∷ l) ≡ servedOf n (s ∷ []) ++ servedOf n l
 unfolding servedOf
 served-split n s l = split (n .served s) (λ e. rw e) (λ e. rw e)
@@ -60,7 +55,7 @@ served-split n s l = split (n .served s) (λ e. rw e) (λ e. rw e)
 -- the served of what is left: those of the next, then the others
 module _ (n : Net) (l : List ℕ) (i : ℕ) (g : i < length l) where
   pub served-next : servedOf n (drop i l) ≡ servedOf n (getD l i 0 ∷ []) ++ servedOf n (drop (i + 1) l)
-  served-next = ap (servedOf n) (next l i g) ∙ served-split n (getD l i 0) (drop (i + 1) l)
+  served-next = ap (servedOf n) (left-at l i g) ∙ served-split n (getD l i 0) (drop (i + 1) l)
 
 pub served-over : (n : Net) (l : List ℕ) {i : ℕ} → length l ≤ i → servedOf n (drop i l) ≡ []
 unfolding servedOf
@@ -116,7 +111,3 @@ pub left-room : (n : Net) (l : List ℕ) (i : ℕ) {total m size size₀ : ℕ} 
     → size ≡ size₀ → m + length (servedOf n (getD l i 0 ∷ [])) ≤ size
 left-room n l i h g f e =
     omega (arith, tally-room (servedOf n (getD l i 0 ∷ [])) (servedOf n (drop (i + 1) l)) h (served-next n l i g))
-
--- a list of stops has a stop at each place
-pub stop-each : {n : Net} {l : List ℕ} (i : ℕ) → Stops n l → i < length l → getD l i 0 < n .stops
-stop-each i h g = h .each i g

@@ -1,8 +1,8 @@
 -- The served stops of a list, written one after the other.
-use Prim.Native.Nat.{ℕ, _+_, _<_}
+use Prim.Native.Nat.{ℕ, _+_}
 use mathlib.Core.Path.{_≡_}
 use mathlib.Core.List.{List}
-use lib.ListN.{length, getD, drop}
+use lib.ListN.{length, drop}
 use lib.Seq.{sets}
 use Rattle.model.specs.Lists.{gather}
 use Rattle.model.specs.Tables.{Net}
@@ -15,10 +15,6 @@ puts w k l = sets w k l
 -- the stops of an area that come of the stops which it names from place i on
 unfoldable pub areaRest : Net → List ℕ → ℕ → List ℕ
 areaRest n named i = gather (λ s. servedOf n (n .children s)) (drop i named)
-
--- the list has stops only
-pub record Stops (n : Net) (l : List ℕ) : Type 0 where
-  pub each : (i : ℕ) → i < length l → getD l i 0 < n .stops
 
 -- k of the `total` stops are counted, and those of the list l are left
 pub record Tally (total k : ℕ) (l : List ℕ) : Type 0 where

@@ -10,7 +10,8 @@ ghost use Rattle.model.specs.Left.{placed};
 ghost use Rattle.repository.specs.Laid.{Laid};
 ghost use Rattle.repository.specs.Accepted.{Accepted};
 ghost use Rattle.repository.specs.NetOf.{netOf};
-ghost use Rattle.discovery.specs.Served.{puts, Stops};
+ghost use Rattle.base.specs.Below.{Below};
+ghost use Rattle.discovery.specs.Served.{puts};
 use repository::places::Station;
 
 // A stop's own children; the stop itself where it has none.
@@ -54,7 +55,7 @@ fn one_if_served(tables: &[u32], s: u32) -> usize
 // How many of the stops are served.
 fn count_served(tables: &[u32], stops: &[u32]) -> usize
     requires { ⌜ Laid (now tables) ⌝ }
-    requires { ⌜ Stops (netOf (now tables)) (now stops) ⌝ }
+    requires { ⌜ Below (netOf (now tables) .stops) (now stops) ⌝ }
     ensures { λ k. ⌜ k ≡ length (servedOf (netOf (now (tables .entry))) (now (stops .entry))) ⌝ }
 {
     let mut k: usize = 0;
@@ -101,7 +102,7 @@ fn put_if_served(tables: &[u32], s: u32, places: &mut [u32], k: usize) -> usize
 // Writes the served of the stops from place k on.
 fn put_served(tables: &[u32], stops: &[u32], places: &mut [u32], k: usize) -> usize
     requires { ⌜ Laid (now tables) ⌝ }
-    requires { ⌜ Stops (netOf (now tables)) (now stops) ⌝ }
+    requires { ⌜ Below (netOf (now tables) .stops) (now stops) ⌝ }
     requires { ⌜ k + length (servedOf (netOf (now tables)) (now stops)) ≤ length (now places) ⌝ }
     ensures { λ _. ⌜ now (places .exit) ≡ puts (now (places .entry)) k (servedOf (netOf (now (tables .entry))) (now (stops .entry))) ⌝ }
     ensures { λ m. ⌜ m ≡ k + length (servedOf (netOf (now (tables .entry))) (now (stops .entry))) ⌝ }

@@ -19,7 +19,7 @@ use Rattle.allocator.specs.Layout.{prevOf, view}
 use Rattle.explorer.specs.declared.Round.{Round}
 use Rattle.explorer_rides.specs.declared.Call.{Call}
 use Rattle.explorer_rides.specs.declared.Ride.{Ride}
-use Rattle.explorer_rides.specs.Riding.{aboard, Seated, caught, OnRoute, boardAt, onward, leaveIn, meets}
+use Rattle.explorer_rides.specs.Riding.{aboard, Seated, caught, OnRoute, boardAt, ridesOn, leaveIn, meets}
 use Rattle.explorer_rides.proofs.Seats.{seat-on, aboard-on, aboard-off}
 use Rattle.explorer_rides.proofs.Times.{leave-is}
 
@@ -66,30 +66,30 @@ module _ (d : Direction) (w : List ℕ) (r p x : ℕ) (a : Aboard) {c : Bool} (r
   board-on f g = g ∙ rw (reading-is d x real, ← e, f)
 
 -- ---- the ride itself, with its row and place
-pub onward-absent : (d : Direction) (w : List ℕ) (here : Call) (a : Ride) {x : ℕ} → x ≡ 0 → a ≡ onward d w here x a
-unfolding onward
-onward-absent d w here a e = rw e refl
+pub rides-on-absent : (d : Direction) (w : List ℕ) (here : Call) (a : Ride) {x : ℕ} → x ≡ 0 → a ≡ ridesOn d w here x a
+unfolding ridesOn
+rides-on-absent d w here a e = rw e refl
 
 module _ (d : Direction) (w : List ℕ) (here : Call) (a : Ride) where
-  pub onward-stay : {x : ℕ} {c : Bool} → (x ≡ 0 → ⊥) → c ≡ allows d (netOf w) x (here .position) (aboard a) → c ≡ false
-      → a ≡ onward d w here x a
-  unfolding onward
-  onward-stay {x = zero} real e f = absurd (real refl)
-  onward-stay {x = suc k} real e f = rw (← e, f) refl
+  pub rides-on-stay : {x : ℕ} {c : Bool} → (x ≡ 0 → ⊥) → c ≡ allows d (netOf w) x (here .position) (aboard a) → c ≡ false
+      → a ≡ ridesOn d w here x a
+  unfolding ridesOn
+  rides-on-stay {x = zero} real e f = absurd (real refl)
+  rides-on-stay {x = suc k} real e f = rw (← e, f) refl
 
-  pub onward-on : {x : ℕ} {c : Bool} {u : Ride} → (x ≡ 0 → ⊥) → c ≡ allows d (netOf w) x (here .position) (aboard a) → c ≡ true
+  pub rides-on-caught : {x : ℕ} {c : Bool} {u : Ride} → (x ≡ 0 → ⊥) → c ≡ allows d (netOf w) x (here .position) (aboard a) → c ≡ true
       → u ≡ caught w (here .route) (here .position) a (tripPlace d (netOf w) (here .route) (here .position) x)
-      → u ≡ onward d w here x a
-  unfolding onward
-  onward-on {x = zero} real e f g = absurd (real refl)
-  onward-on {x = suc k} real e f g = g ∙ rw (← e, f) refl
+      → u ≡ ridesOn d w here x a
+  unfolding ridesOn
+  rides-on-caught {x = zero} real e f g = absurd (real refl)
+  rides-on-caught {x = suc k} real e f g = g ∙ rw (← e, f) refl
 
 -- ---- the label that was read
-pub onward-is : (w : List ℕ) (o : Round) (here : Call) (ws : List ℕ) (a : Ride) {u : Ride} {x : ℕ}
+pub rides-on-is : (w : List ℕ) (o : Round) (here : Call) (ws : List ℕ) (a : Ride) {u : Ride} {x : ℕ}
     → x ≡ getD (prevOf (o .stops) (o .routes) ws) (here .stop) 0
-    → u ≡ onward (o .direction) w here x a
-    → u ≡ onward (o .direction) w here (getD (prevOf (o .stops) (o .routes) ws) (here .stop) 0) a
-onward-is w o here ws a e f = f ∙ rw e refl
+    → u ≡ ridesOn (o .direction) w here x a
+    → u ≡ ridesOn (o .direction) w here (getD (prevOf (o .stops) (o .routes) ws) (here .stop) 0) a
+rides-on-is w o here ws a e f = f ∙ rw e refl
 
 pub board-is : (w : List ℕ) (o : Round) (here : Call) (ws ms : List ℕ) (a : Aboard) {e : Aboard} {x : ℕ} → OnRoute w here
     → x ≡ getD (prevOf (o .stops) (o .routes) ws) (here .stop) 0

@@ -69,9 +69,9 @@ unfoldable pub boardAt : Direction → Net → ℕ → ℕ → ℕ → Aboard �
 boardAt d n r p x a = cond (allows d n (reading d x) p a) (boarded p a (catch d n r p (reading d x))) a
 
 -- the ride that goes on from a call where the label of the round before is x: the trip that the label catches, where it allows one
-unfoldable pub onward : Direction → List ℕ → Call → ℕ → Ride → Ride
-onward d w here zero a = a
-onward d w here (suc k) a =
+unfoldable pub ridesOn : Direction → List ℕ → Call → ℕ → Ride → Ride
+ridesOn d w here zero a = a
+ridesOn d w here (suc k) a =
     cond (allows d (netOf w) (suc k) (here .position) (aboard a))
     (caught w (here .route) (here .position) a (tripPlace d (netOf w) (here .route) (here .position) (suc k)))
     a

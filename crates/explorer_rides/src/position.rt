@@ -6,7 +6,7 @@ ghost use lib.ListN.{getD};
 ghost use Rattle.allocator.specs.Layout.{prevOf, view};
 ghost use Rattle.allocator.specs.Does.{Usable, Does};
 ghost use Rattle.explorer.specs.Fused.{alightWork};
-ghost use Rattle.explorer_rides.specs.Riding.{aboard, Seated, OnRoute, Riding, boardAt, onward, meets};
+ghost use Rattle.explorer_rides.specs.Riding.{aboard, Seated, OnRoute, Riding, boardAt, ridesOn, meets};
 use super::Call;
 use super::Ride;
 use explorer::Round;
@@ -68,7 +68,7 @@ fn allows(tables: &[u32], round: Round, here: Call, label: Time, ride: Ride) -> 
 fn board(tables: &[u32], round: Round, here: Call, label: Time, ride: Ride) -> Ride
     requires { ⌜ OnRoute (now tables) here ⌝ }
     requires { ⌜ Seated (now tables) (here .route) ride ⌝ }
-    ensures { λ e. ⌜ e ≡ onward (round .direction) (now (tables .entry)) here (label .0) ride ⌝ }
+    ensures { λ e. ⌜ e ≡ ridesOn (round .direction) (now (tables .entry)) here (label .0) ride ⌝ }
     ensures { λ e. ⌜ aboard e
         ≡ boardAt (round .direction) (netOf (now (tables .entry))) (here .route) (here .position) (label .0) (aboard ride) ⌝ }
     ensures { λ e. ⌜ Seated (now (tables .entry)) (here .route) e ⌝ }
@@ -101,7 +101,7 @@ pub fn ride_at(
         (here .route) (here .position) (aboard ride))
         (now (words .entry)) (now (marks .entry)) (now (words .exit)) (now (marks .exit)) ⌝ }
     ensures { λ e. ⌜ e
-        ≡ onward (round .direction) (now (tables .entry)) here
+        ≡ ridesOn (round .direction) (now (tables .entry)) here
         (getD (prevOf (round .stops) (round .routes) (now (words .entry))) (here .stop) 0) ride ⌝ }
     ensures { λ e. ⌜ aboard e
         ≡ boards (round .direction) (netOf (now (tables .entry)))

@@ -17,6 +17,7 @@ use Rattle.model.specs.Tables.{Net}
 use Rattle.model.specs.Places.{exists, placeStops, stopsOfArea}
 use Rattle.model.specs.Answer.{mayWalk, momentOf, taskBy, taskOf, refusal}
 use Rattle.model.specs.Left.{placed}
+use Rattle.model.specs.Limits.{MOST-STOPS}
 use Rattle.model.specs.Sound.{Sound, Asked}
 use Rattle.model.proofs.Asking.{Passed, passed, asked}
 use Rattle.repository.specs.Accepted.{Accepted}
@@ -27,7 +28,7 @@ use Rattle.repository.proofs.Areas.{area-fits}
 use Rattle.raptor_query.specs.Areas.{areaPart}
 use Rattle.raptor_query.proofs.Places.{area-there}
 use Rattle.raptor_rounds.specs.declared.Ask.{Ask}
-use Rattle.raptor_rounds.specs.Stops.{Below}
+use Rattle.base.specs.Below.{Below}
 use Rattle.raptor.proofs.Searched.{posed-accepted, posed-stops}
 use Rattle.raptor.specs.Searching.{askOf, Posed, Place, Written}
 
@@ -97,7 +98,7 @@ module _ {t : List ℕ} {q : Query} {ask : Ask} (y : Posed t q ask) where
   unfolding askOf
   asked-moment = let h = p .first in let e : ask .moment .0 ≡ momentOf (q .time) = ap (λ (v : Ask). v .moment .0) (y .asks) in omega arith
 
-  pub stops-most : ask .stops ≤ 4096
+  pub stops-most : ask .stops ≤ MOST-STOPS
   stops-most = let e = posed-stops y in let h = stops-few ((posed-accepted y) .laid) in omega arith
 
   from-below : Below s (placeStops (netOf t) (q .from))

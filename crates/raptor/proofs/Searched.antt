@@ -25,7 +25,7 @@ use Rattle.raptor_query.specs.Areas.{areaPart}
 use Rattle.raptor_query.proofs.Places.{stop-there}
 use Rattle.raptor_query.specs.Directed.{directionOf}
 use Rattle.raptor_rounds.specs.declared.Ask.{Ask}
-use Rattle.raptor_rounds.specs.Stops.{Below}
+use Rattle.base.specs.Below.{Below}
 use Rattle.raptor.specs.Searching.{askOf, Posed, Place}
 
 module _ {n : Net} {k : ℕ} {l : Location} {area : List ℕ} (p : Place n k l area) where

@@ -16,7 +16,7 @@ use Rattle.raptor_query.specs.Areas.{areaPart}
 use Rattle.raptor_query.specs.Directed.{directionOf}
 use Rattle.raptor_rounds.specs.declared.Ask.{Ask}
 use Rattle.raptor_rounds.specs.Tabled.{Tabled}
-use Rattle.raptor_rounds.specs.Stops.{Below}
+use Rattle.base.specs.Below.{Below}
 use Rattle.raptor.specs.Lent.{Lent}
 use Rattle.raptor.specs.Solved.{Ended}
 

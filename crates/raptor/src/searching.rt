@@ -6,6 +6,7 @@ ghost use lib.ListN.{length};
 ghost use Rattle.model.specs.Places.{placeStops};
 ghost use Rattle.model.specs.Answer.{searched};
 ghost use Rattle.model.specs.Left.{placed};
+ghost use Rattle.model.specs.Limits.{MOST-STOPS};
 ghost use Rattle.model.specs.Work.{stateOf};
 ghost use Rattle.repository.specs.Accepted.{Accepted};
 ghost use Rattle.repository.specs.NetOf.{netOf};
@@ -103,7 +104,7 @@ fn search_in<'a>(
     requires { ⌜ Posed (now tables) q a ⌝ }
     requires { ⌜ Sized (a .stops) (a .routes) (now words) (now marks) ⌝ }
     requires { ⌜ Written (netOf (now tables)) q (now places) (sizes .origins) (sizes .goals) ⌝ }
-    requires { ⌜ a .stops ≤ 4096 ⌝ }
+    requires { ⌜ a .stops ≤ MOST-STOPS ⌝ }
     requires { ⌜ sizes .origins ≤ a .stops ⌝ }
     requires { ⌜ sizes .goals ≤ a .stops ⌝ }
     requires { ⌜ length (now places) ≡ a .stops + a .stops ⌝ }

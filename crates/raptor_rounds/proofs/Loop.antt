@@ -20,7 +20,7 @@ use Rattle.allocator.specs.Repeated.{startedAll}
 use Rattle.raptor_rounds.specs.declared.Ask.{Ask}
 use Rattle.raptor_rounds.specs.Asked.{taskBetween, Begun}
 use Rattle.raptor_rounds.specs.Tabled.{Tabled}
-use Rattle.raptor_rounds.specs.Stops.{Below}
+use Rattle.base.specs.Below.{Below}
 use Rattle.raptor_rounds.specs.OneRound.{roundWork, Ready}
 use Rattle.raptor_rounds.proofs.Rest.{Rounds}
 use Rattle.raptor_rounds.proofs.OneRound.{ready, search-start, search-on, search-ends, search-done}

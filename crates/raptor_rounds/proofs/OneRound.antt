@@ -30,7 +30,7 @@ use Rattle.explorer_footpaths.specs.Footing.{Footing}
 use Rattle.explorer_footpaths.proofs.Footing.{ridden-footing}
 use Rattle.explorer.specs.Fused.{ridesWork, feetWork}
 use Rattle.explorer.proofs.Fused.{rides-fused, round-fused}
-use Rattle.raptor_rounds.specs.Stops.{Below}
+use Rattle.base.specs.Below.{Below}
 use Rattle.raptor_rounds.specs.OneRound.{roundWork, Ready}
 use Rattle.raptor_rounds.proofs.Rest.{Rounds, rounds-start, rounds-next, rounds-end, rounds-all}
 

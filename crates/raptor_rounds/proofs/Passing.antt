@@ -46,7 +46,7 @@ use denote.Triple.End.{Kepts}
 use denote.Triple.Walked.{Stay, Stays, stay-none, stay-none-slice, Goes, AllGo, goes-none, goes-none-slice}
 use Rattle.model.specs.Round.{aim}
 use Rattle.allocator.specs.Layout.{Words, bestOf}
-use Rattle.raptor_rounds.specs.Stops.{Below}
+use Rattle.base.specs.Below.{Below}
 use Rattle.model.specs.declared.Direction.{Direction}
 use Rattle.model.specs.declared.Target.{Target}
 use Rattle.model.proofs.Direction as D

@@ -6,7 +6,7 @@ use lib.ListN.{length, getD, drop, drop-of-length-le}
 use Rattle.model.specs.Work.{Work}
 use Rattle.allocator.specs.Operations.{started}
 use Rattle.allocator.specs.Repeated.{startedAll}
-use Rattle.raptor_rounds.proofs.Stops.{left-at}
+use Rattle.base.proofs.Below.{left-at}
 
 -- the loop has come to place i of the start stops
 pub record Starting (t : ℕ) (ss : List ℕ) (w₀ w : Work) (i : ℕ) : Type 0 where

@@ -11,7 +11,7 @@ use Rattle.model.specs.declared.Target.{Target}
 use Rattle.model.specs.Moments.{better}
 use Rattle.model.specs.Round.{aim}
 use Rattle.raptor_rounds.specs.Targets.{taken}
-use Rattle.raptor_rounds.proofs.Stops.{left-at}
+use Rattle.base.proofs.Below.{left-at}
 
 module _ (d : Direction) (k : ℕ) (best : List ℕ) (s : ℕ) (g : Target) {t : Time} {b : Bool} (et : t .0 ≡ getD best s 0)
     (eb : b ≡ better d (t .0) (g .time .0)) where

@@ -9,7 +9,7 @@ use Rattle.allocator.specs.Operations.{cleared}
 use Rattle.allocator.specs.Repeated.{startedAll}
 use Rattle.raptor_rounds.specs.declared.Ask.{Ask}
 use Rattle.raptor_rounds.specs.Tabled.{Tabled}
-use Rattle.raptor_rounds.specs.Stops.{Below}
+use Rattle.base.specs.Below.{Below}
 
 abbrev pub taskBetween : Ask → List ℕ → List ℕ → Task
 taskBetween a starts goals = task (a .direction) (a .mode) (a .walking) starts goals (a .moment .0)

@@ -1,5 +1,4 @@
 -- The definitions that the contracts of the round loop cite.
-pub mod Stops
 pub mod Targets
 pub mod OneRound
 pub mod Tabled

@@ -17,7 +17,7 @@ ghost use Rattle.explorer_footpaths.specs.Footing.{Footing};
 ghost use Rattle.raptor_rounds.specs.Tabled.{Tabled};
 ghost use Rattle.raptor_rounds.specs.Asked.{taskBetween, Begun};
 ghost use Rattle.raptor_rounds.specs.OneRound.{roundWork, Ready};
-ghost use Rattle.raptor_rounds.specs.Stops.{Below};
+ghost use Rattle.base.specs.Below.{Below};
 ghost use Rattle.raptor_rounds.specs.Targets.{taken};
 use explorer::Round;
 use model::Direction;

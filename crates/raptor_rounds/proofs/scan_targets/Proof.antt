@@ -3,7 +3,7 @@ use borrow.Author.Needs.{needs}
 use Prim.Native.Nat.{_-_}
 use lib.ListN.{length}
 use Rattle.allocator.specs.Layout.{bestOf}
-use Rattle.raptor_rounds.proofs.Stops.{stop-below}
+use Rattle.base.proofs.Below.{entry-below}
 use Rattle.raptor_rounds.proofs.Targets.{Scanned, scanned-none, scanned-on, scanned-all}
 use Rattle.raptor_rounds.proofs.scan_targets.Statement.{statement}
 use Rattle.raptor_rounds.proofs.scan_targets.Tie as tie
@@ -24,7 +24,7 @@ shared-slice-read-aim-at : tie.Need-shared-slice-read-aim-at Inv-loop μ-loop
 shared-slice-read-aim-at c = search needs
 
 aim-at-requires : tie.Need-aim-at-requires Inv-loop μ-loop
-aim-at-requires c κs = (search needs, search (needs, stop-below))
+aim-at-requires c κs = (search needs, search (needs, entry-below))
 
 add-i : tie.Need-add-i Inv-loop μ-loop
 add-i c = search needs

@@ -5,7 +5,7 @@ use mathlib.Core.Path.{_≡_}
 use lib.ListN.{length}
 use Rattle.allocator.specs.Layout.{view}
 use Rattle.allocator.specs.Does.{Usable}
-use Rattle.raptor_rounds.proofs.Stops.{stop-below}
+use Rattle.base.proofs.Below.{entry-below}
 use Rattle.raptor_rounds.proofs.Starting.{Starting, starting-none, starting-on, starting-all}
 use Rattle.raptor_rounds.proofs.start_all.Statement.{statement}
 use Rattle.raptor_rounds.proofs.start_all.Tie as tie
@@ -28,7 +28,7 @@ shared-slice-read-start : tie.Need-shared-slice-read-start Inv-loop μ-loop
 shared-slice-read-start c = search needs
 
 start-requires : tie.Need-start-requires Inv-loop μ-loop
-start-requires c κs = (search needs, search (needs, stop-below))
+start-requires c κs = (search needs, search (needs, entry-below))
 
 add-i : tie.Need-add-i Inv-loop μ-loop
 add-i c = search needs

@@ -5,7 +5,8 @@ use lib.ListN.{length, drop}
 use Rattle.model.specs.Places.{servedOf}
 use Rattle.repository.specs.NetOf.{netOf}
 use Rattle.discovery.specs.Served.{Tally}
-use Rattle.discovery.proofs.Counting.{served-next, served-over, tally-part, tally-end, tally-start, stop-each}
+use Rattle.base.proofs.Below.{entry-below}
+use Rattle.discovery.proofs.Counting.{served-next, served-over, tally-part, tally-end, tally-start}
 use Rattle.discovery.proofs.places.count_served.Statement.{statement}
 use Rattle.discovery.proofs.places.count_served.Tie as tie
 
@@ -26,7 +27,7 @@ shared-slice-read-one-if-served : tie.Need-shared-slice-read-one-if-served Inv-l
 shared-slice-read-one-if-served c = search needs
 
 one-if-served-requires : tie.Need-one-if-served-requires Inv-loop μ-loop
-one-if-served-requires c κs = (search needs, search (needs, stop-each))
+one-if-served-requires c κs = (search needs, search (needs, entry-below))
 
 add-k : tie.Need-add-k Inv-loop μ-loop
 add-k c = search needs

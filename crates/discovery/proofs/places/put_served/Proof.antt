@@ -6,8 +6,9 @@ use lib.ListN.{length, drop}
 use Rattle.model.specs.Places.{servedOf}
 use Rattle.repository.specs.NetOf.{netOf}
 use Rattle.discovery.specs.Served.{puts, Tally, Filling}
+use Rattle.base.proofs.Below.{entry-below}
 use Rattle.discovery.proofs.Counting.{served-next, served-over, tally-moved, tally-end, tally-from, filling-part}
-use Rattle.discovery.proofs.Counting.{filling-end, filling-start, left-room, stop-each}
+use Rattle.discovery.proofs.Counting.{filling-end, filling-start, left-room}
 use Rattle.discovery.proofs.places.put_served.Statement.{statement}
 use Rattle.discovery.proofs.places.put_served.Tie as tie
 
@@ -30,7 +31,7 @@ shared-slice-read-put-if-served : tie.Need-shared-slice-read-put-if-served Inv-l
 shared-slice-read-put-if-served c = search needs
 
 put-if-served-requires : tie.Need-put-if-served-requires Inv-loop μ-loop
-put-if-served-requires c κs = (search needs, (search (needs, stop-each), search (needs, left-room)))
+put-if-served-requires c κs = (search needs, (search (needs, entry-below), search (needs, left-room)))
 
 add-i : tie.Need-add-i Inv-loop μ-loop
 add-i c = search needs

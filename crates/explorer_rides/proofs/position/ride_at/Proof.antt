@@ -1,7 +1,7 @@
 -- `ride_at`: alight, then board.
 use borrow.Author.Needs.{needs}
 use Rattle.explorer_rides.proofs.Seats.{call-in}
-use Rattle.explorer_rides.proofs.Boarding.{board-is, onward-is}
+use Rattle.explorer_rides.proofs.Boarding.{board-is, rides-on-is}
 use Rattle.explorer_rides.proofs.position.ride_at.Statement.{statement}
 use Rattle.explorer_rides.proofs.position.ride_at.Tie as tie
 
@@ -21,7 +21,7 @@ same-length-2 : tie.Need-same-length-2
 same-length-2 c = search needs
 
 returns : tie.Need-returns
-returns c = (search needs, (search (needs, onward-is), (search (needs, board-is), search needs)))
+returns c = (search needs, (search (needs, rides-on-is), (search (needs, board-is), search needs)))
 
 pub ride-at-spec : {M : Type 1} → statement M
 ride-at-spec =
