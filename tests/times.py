@@ -15,7 +15,8 @@ MORE = {
     "raptor_reply": (4, "four edits of its one function; a check takes 5 seconds"),
     "path": (3, "two edits of one definition, of which what is left speaks too"),
     "check_listing": (3, "two edits of marked_once, and one of a definition of which it speaks"),
-    "check_tables": (4, "three edits of time_ok, and one of a definition of which it speaks"),
+    "check_times": (4, "three edits of time_ok, and one of a definition of which it speaks"),
+    "check_tables": (3, "two edits of definitions of which its functions speak; a check takes 8 seconds"),
 }
 os.chdir(os.path.join(os.path.dirname(os.path.abspath(__file__)), ".."))
 
