@@ -9,7 +9,7 @@ use Rattle.marks.specs.Marks.{marked, firstOf}
 use Rattle.marks.specs.declared.Next.{Next}
 use Rattle.marks.specs.declared.Next.the-variants.{At, Nothing}
 use Rattle.model.specs.declared.Aboard.the-variants.{Off}
-use Rattle.model.specs.declared.Direction.the-variants.{Arrival}
+use Rattle.model.specs.declared.Direction.the-variants.{Departure, Arrival}
 use Rattle.model.specs.Rides.{course}
 use Rattle.model.specs.Choosing.{Placed}
 use Rattle.repository.specs.NetOf.{netOf}
@@ -23,21 +23,42 @@ use Rattle.explorer.specs.declared.Round.{Round}
 use Rattle.explorer.specs.Fixed.{InRound}
 use Rattle.explorer.specs.Fused.{scanWork, routeWork, routesWork, ridesWork}
 use Rattle.explorer.proofs.Visited.{visited}
-use Rattle.explorer_rides.specs.Riding.{Riding}
+use Rattle.explorer_rides.specs.Riding.{Riding, Rideable}
+use Rattle.explorer_rides.specs.Left.{positionsLeft}
+use Rattle.explorer_rides.proofs.Scanning.{course-up, course-down}
 use Rattle.explorer_rides.proofs.Unchanged.{route-mask, route-active}
 
 -- ---- one route
-pub riding : {w stops : List ℕ} {o : Round} {r : ℕ} → InRound w o → r < o .routes
+riding : {w stops : List ℕ} {o : Round} {r : ℕ} → InRound w o → r < o .routes
     → stops ≡ tab (netOf w .stopAt r) (netOf w .positions r) 0 → Riding w o r stops
 riding h l e = record { round = h; route = rw (h .fixed .routes) at l; along = e }
 
-pub route-is : (w : List ℕ) (o : Round) (r : ℕ) {ws ms ws′ ms′ : List ℕ} {from : ℕ}
+pub rideable : {w stops : List ℕ} {o : Round} {r : ℕ} → InRound w o → r < o .routes
+    → stops ≡ tab (netOf w .stopAt r) (netOf w .positions r) 0 → Rideable w o r stops
+rideable h l e = record { known = λ _. riding h l e }
+
+route-is : (w : List ℕ) (o : Round) (r : ℕ) {ws ms ws′ ms′ : List ℕ} {from : ℕ}
     → from ≡ getD (activeOf (o .stops) (o .routes) ws) r 0
     → Does (o .stops) (o .routes)
     (scanWork (o .direction) (netOf w) (o .number) (o .target .0) r (course (o .direction) (netOf w) r from) Off) ws ms ws′ ms′
     → Does (o .stops) (o .routes) (routeWork (o .direction) (netOf w) (o .number) (o .target .0) r) ws ms ws′ ms′
 unfolding routeWork view
 route-is w o r e f = record { holds = f .holds ∙ rw e; usable = f .usable }
+
+pub route-up : (w : List ℕ) (o : Round) (r : ℕ) {ws ms ws′ ms′ : List ℕ} {from : ℕ} → o .direction ≡ Departure
+    → from ≡ getD (activeOf (o .stops) (o .routes) ws) r 0
+    → Does (o .stops) (o .routes)
+    (scanWork (o .direction) (netOf w) (o .number) (o .target .0) r (positionsLeft (o .direction) (netOf w) r from) Off) ws ms ws′ ms′
+    → Does (o .stops) (o .routes) (routeWork (o .direction) (netOf w) (o .number) (o .target .0) r) ws ms ws′ ms′
+route-up w o r {from = from} d e f = route-is w o r e (rw (course-up (netOf w) r from d) at f)
+
+pub route-down : (w : List ℕ) (o : Round) (r : ℕ) {ws ms ws′ ms′ : List ℕ} {from : ℕ} → o .direction ≡ Arrival
+    → from ≡ getD (activeOf (o .stops) (o .routes) ws) r 0
+    → Does (o .stops) (o .routes)
+    (scanWork (o .direction) (netOf w) (o .number) (o .target .0) r (positionsLeft (o .direction) (netOf w) r (from + 1)) Off)
+    ws ms ws′ ms′
+    → Does (o .stops) (o .routes) (routeWork (o .direction) (netOf w) (o .number) (o .target .0) r) ws ms ws′ ms′
+route-down w o r {from = from} d e f = route-is w o r e (rw (course-down (netOf w) r from d) at f)
 
 -- ---- the loop
 -- the answer x of a look from place i on

@@ -23,31 +23,15 @@ module _ {w stops : List ℕ} {o : Round} {r : ℕ} (h : Riding w o r stops) whe
   long = ap length (h .along) ∙ tab-length (netOf w .stopAt r) (netOf w .positions r) 0
 
   module _ {p : ℕ} (l : p < netOf w .positions r) where
-    stop-room : p < length stops
+    pub stop-room : p < length stops
     stop-room = omega (arith, long)
 
     pub stop-read : getD stops p 0 ≡ netOf w .stopAt r p
     stop-read =
         ap (λ (x : List ℕ). getD x p 0) (h .along) ∙ tab-at (netOf w .stopAt r) (netOf w .positions r) p 0 l
 
-    call : OnRoute w (record { route = r; position = p; stop = getD stops p 0 })
-    call = record { accepted = h .round .fixed .accepted; route = h .route; position = l; stop = stop-read }
-
-  -- a scan up to `end` is at p
-  module _ {p end : ℕ} (e : end ≡ netOf w .positions r) (l : p < end) where
-    pub up-room : p < length stops
-    up-room = stop-room (omega arith)
-
-    pub up-call : OnRoute w (record { route = r; position = p; stop = getD stops p 0 })
-    up-call = call (omega arith)
-
-  -- a scan down from `from` is below p
-  module _ {p from : ℕ} (l : from < netOf w .positions r) (b : p ≤ from + 1) (m : 0 < p) where
-    pub down-room : p - 1 < length stops
-    down-room = stop-room (omega arith)
-
-    pub down-call : OnRoute w (record { route = r; position = p - 1; stop = getD stops (p - 1) 0 })
-    down-call = call (omega arith)
+    pub call-at : OnRoute w (record { route = r; position = p; stop = getD stops p 0 })
+    call-at = record { accepted = h .round .fixed .accepted; route = h .route; position = l; stop = stop-read }
 
 pub call-in : {w stops : List ℕ} {o : Round} {here : Call} → Riding w o (here .route) stops → OnRoute w here
     → here .stop < o .stops

@@ -57,6 +57,10 @@ pub record Riding (w : List ℕ) (o : Round) (r : ℕ) (stops : List ℕ) : Type
   pub route : r < netOf w .routes
   pub along : stops ≡ tab (netOf w .stopAt r) (netOf w .positions r) 0
 
+-- the same behind a function, so that only who asks for its many facts has them
+pub record Rideable (w : List ℕ) (o : Round) (r : ℕ) (stops : List ℕ) : Type 0 where
+  pub known : Unit {0} → Riding w o r stops
+
 -- at a call: a position of a route, with its stop
 pub record OnRoute (w : List ℕ) (here : Call) : Type 0 where
   pub accepted : Accepted w

@@ -1,57 +1,14 @@
-// The arrival search's scan of a route, against time: at each position first the proposal, then the boarding.
+// The arrival search's scan of a route: against time, from its mark down to its first position.
 ghost use mathlib.Core.Path.{_≡_};
 ghost use Prim.Native.Nat.{_<_};
 ghost use lib.ListN.{getD};
-ghost use Rattle.model.specs.declared.Aboard.the-variants.{Off};
 ghost use Rattle.model.specs.declared.Direction.the-variants.{Arrival};
-ghost use Rattle.model.specs.Rides.{course};
 ghost use Rattle.repository.specs.NetOf.{netOf};
 ghost use Rattle.allocator.specs.Layout.{activeOf};
 ghost use Rattle.allocator.specs.Does.{Usable, Does};
 ghost use Rattle.explorer.specs.Fixed.{InRound};
-ghost use Rattle.explorer.specs.Fused.{scanWork, routeWork};
-ghost use Rattle.explorer_rides.specs.Riding.{Riding};
-use super::Call;
-use super::Ride;
+ghost use Rattle.explorer.specs.Fused.{routeWork};
 use explorer::Round;
-
-// From position `from` down to the first of the route.
-fn scan(
-    tables: &[u32],
-    words: &mut [u32],
-    marks: &mut [u64],
-    stops: &[u32],
-    round: Round,
-    r: u32,
-    from: u32,
-)
-    requires { ⌜ Riding (now tables) round r (now stops) ⌝ }
-    requires { ⌜ round .direction ≡ Arrival ⌝ }
-    requires { ⌜ Usable (round .stops) (round .routes) (now words) (now marks) ⌝ }
-    requires { ⌜ from < netOf (now tables) .positions r ⌝ }
-    ensures { λ _. ⌜ Does (round .stops) (round .routes)
-        (scanWork (round .direction) (netOf (now (tables .entry))) (round .number) (round .target .0) r
-        (course (round .direction) (netOf (now (tables .entry))) r from) Off)
-        (now (words .entry)) (now (marks .entry)) (now (words .exit)) (now (marks .exit)) ⌝ }
-{
-    let mut ride = Ride {
-        trip: repository::MAX,
-        since: 0,
-        row: 0,
-        place: repository::MAX,
-    };
-    let mut p = from + 1;
-    while 0 < p {
-        p -= 1;
-        let s = stops[p as usize];
-        let here = Call {
-            route: r,
-            position: p,
-            stop: s,
-        };
-        ride = super::position::ride_at(tables, words, marks, stops, round, here, ride);
-    }
-}
 
 // The route r, from its mark.
 pub fn explore_route(tables: &[u32], words: &mut [u32], marks: &mut [u64], round: Round, r: u32)
@@ -66,5 +23,6 @@ pub fn explore_route(tables: &[u32], words: &mut [u32], marks: &mut [u64], round
 {
     let from = allocator::active_at(words, round.stops, round.routes, r);
     let stops = repository::routes::route_stops(tables, r);
-    scan(tables, words, marks, stops, round, r, from);
+    let start = from + 1;
+    super::scan::scan(tables, words, marks, stops, round, r, start);
 }

@@ -2,8 +2,9 @@
 // A proposal is applied as it is made.
 pub mod seat; // seat.rt: a trip is caught, and what it proposes
 pub mod position; // position.rt: what happens at one position, in both directions
-pub mod departure; // departure.rt: the scan of a route with time, from its mark to its end
-pub mod arrival; // arrival.rt: the scan against time, from its mark down to its first position
+pub mod scan; // scan.rt: one position of a route after the other, with time or against it
+pub mod departure; // departure.rt: the scan of a route from its mark to its end
+pub mod arrival; // arrival.rt: the scan from its mark down to its first position
 
 ghost use mathlib.Core.Path.{_≡_};
 ghost use Rattle.model.specs.declared.Direction.the-variants.{Departure, Arrival};
