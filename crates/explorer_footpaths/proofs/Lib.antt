@@ -1,5 +1,4 @@
 -- The laws behind the proofs of the footpaths of a round.
-pub mod Listed
 pub mod Steps
 pub mod Gaining
 pub mod Paths

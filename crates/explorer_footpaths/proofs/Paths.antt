@@ -7,13 +7,12 @@ use Rattle.model.specs.declared.Direction.{Direction}
 use Rattle.model.specs.declared.LegType.{LegType}
 use Rattle.model.specs.Tables.{Foot}
 use Rattle.model.specs.Work.{Work}
+use Rattle.repository.specs.NetOf.{transferRow, walkRow}
 use Rattle.repository.specs.Rows.{Listing, transfers, walks, firstRow, pastRow, OfStop, rest}
 use Rattle.repository.proofs.Ranges.{of-stop, row-known, transfer-known, walk-known, transfer-short, walk-short}
 use Rattle.explorer.specs.declared.Round.{Round}
 use Rattle.explorer.specs.Turns.{inTurn, Turn}
-use Rattle.explorer_footpaths.specs.declared.Footpaths.{Footpaths}
-use Rattle.explorer_footpaths.specs.declared.Footpaths.the-variants.{Transfers, Walks}
-use Rattle.explorer_footpaths.specs.Footing.{listingOf, footRow, Leaving, footFrom}
+use Rattle.explorer_footpaths.specs.Footing.{Leaving, footFrom}
 
 -- ---- the loop over the rows, of which r says where each leads and how long it takes
 pub path-start : (f : Foot → Work → Work) (r : ℕ → Foot) (a b : ℕ) (x : Work) {l : List Foot} → l ≡ rest r a b
@@ -27,16 +26,18 @@ pub row-here : (l : Listing) {w : List ℕ} {o : Round} {s x j b : ℕ} → Leav
 row-here l h from g eb = of-stop l (omega (arith, h .stop, h .round .fixed .stops)) refl from eb g
 
 module _ {w : List ℕ} {o : Round} {s x j u : ℕ} (h : Leaving w o s x) where
-  pub path-in : (l : Footpaths) → OfStop (listingOf l) w s j → u ≡ (footRow l w j) .to → u < o .stops
-  unfolding listingOf footRow
-  path-in Transfers y e = omega (arith, transfer-known (h .round .fixed .accepted) y e, h .round .fixed .stops)
-  path-in Walks y e =
+  pub transfer-in : OfStop transfers w s j → u ≡ (transferRow w j) .to → u < o .stops
+  transfer-in y e = omega (arith, transfer-known (h .round .fixed .accepted) y e, h .round .fixed .stops)
+
+  pub transfer-most : OfStop transfers w s j → u ≡ (transferRow w j) .span → u ≤ 86_400
+  transfer-most y e = transfer-short (h .round .fixed .accepted) (row-known transfers (h .round .fixed .accepted .laid) y) e
+
+  pub walk-in : OfStop walks w s j → u ≡ (walkRow w j) .to → u < o .stops
+  walk-in y e =
       omega (arith, walk-known (h .round .fixed .accepted) (row-known walks (h .round .fixed .accepted .laid) y) e, h .round .fixed .stops)
 
-  pub path-most : (l : Footpaths) → OfStop (listingOf l) w s j → u ≡ (footRow l w j) .span → u ≤ 86_400
-  unfolding listingOf footRow
-  path-most Transfers y e = transfer-short (h .round .fixed .accepted) (row-known transfers (h .round .fixed .accepted .laid) y) e
-  path-most Walks y e = walk-short (h .round .fixed .accepted) (row-known walks (h .round .fixed .accepted .laid) y) e
+  pub walk-most : OfStop walks w s j → u ≡ (walkRow w j) .span → u ≤ 86_400
+  walk-most y e = walk-short (h .round .fixed .accepted) (row-known walks (h .round .fixed .accepted .laid) y) e
 
 -- a footpath by what was read of its row
 pub row-path : (d : Direction) (n k target : ℕ) (c : LegType) (s x : ℕ) (r : Foot) (v : Work) {to span : ℕ} {u : Work}

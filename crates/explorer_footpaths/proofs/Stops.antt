@@ -21,8 +21,7 @@ use Rattle.explorer.specs.Fused.{pathsWork, stopWork, feetWork}
 use Rattle.explorer.specs.Turns.{inTurn, Turn}
 use Rattle.explorer.proofs.Turns.{mark-start, mark-next}
 use Rattle.explorer.proofs.Visited.{visited}
-use Rattle.explorer_footpaths.specs.declared.Footpaths.the-variants.{Transfers, Walks}
-use Rattle.explorer_footpaths.specs.Footing.{kindOf, footsOf, Footing, Leaving, footFrom}
+use Rattle.explorer_footpaths.specs.Footing.{Footing, Leaving, footFrom}
 use Rattle.explorer_footpaths.proofs.Held.{SameHeld, stop-held, paths-turn, stops-turn, label-held}
 
 -- ---- one stop
@@ -33,18 +32,18 @@ module _ (d : Direction) (t : Net) (k target s : ℕ) where
 
   module _ (n m : ℕ) (p q : List ℕ) {x : ℕ} {u : Work} (en : n ≡ t .stops)
       (ex : x ≡ getD (heldOf n m p) s 0)
-      (eu : u ≡ inTurn (footFrom d n k target (kindOf Transfers) s x) (footsOf Transfers t s) (view n m p q)) where
+      (eu : u ≡ inTurn (footFrom d n k target Transfer s x) (t .transfers s) (view n m p q)) where
     after-transfers : u ≡ pathsWork d t k target Transfer s (t .transfers s) (view n m p q)
-    unfolding view kindOf footsOf
+    unfolding view
     after-transfers = eu ∙ taken Transfer (t .transfers s) (view n m p q) en ex
 
     pub stop-only : {walking : Bool} → walking ≡ false → u ≡ stopWork d t k target walking s (view n m p q)
     unfolding stopWork
     stop-only e = after-transfers ∙ rw e
 
-    pub stop-walks : {walking : Bool} {y : Work} → walking ≡ true → y ≡ inTurn (footFrom d n k target (kindOf Walks) s x) (footsOf Walks t s) u
+    pub stop-walks : {walking : Bool} {y : Work} → walking ≡ true → y ≡ inTurn (footFrom d n k target Walk s x) (t .walks s) u
         → y ≡ stopWork d t k target walking s (view n m p q)
-    unfolding stopWork view kindOf footsOf
+    unfolding stopWork view
     stop-walks e ey =
         let held : x ≡ getD (u .held) s 0 =
         ex ∙ ap (λ (l : List ℕ). getD l s 0) (sym (label-held d t k target Transfer s (t .transfers s) (view n m p q)))

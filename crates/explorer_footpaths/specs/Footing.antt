@@ -5,39 +5,16 @@ use lib.ListN.{getD}
 use Rattle.base.specs.Each.{Each}
 use Rattle.model.specs.declared.Direction.{Direction}
 use Rattle.model.specs.declared.LegType.{LegType}
-use Rattle.model.specs.declared.LegType.the-variants.{Transfer, Walk}
-use Rattle.model.specs.Tables.{Foot, Net}
+use Rattle.model.specs.Tables.{Foot}
 use Rattle.model.specs.Lists.{setIn}
 use Rattle.model.specs.Legs.{legOf}
 use Rattle.model.specs.Footpaths.{walked}
 use Rattle.model.specs.Work.{Work}
-use Rattle.repository.specs.NetOf.{transferRow, walkRow}
-use Rattle.repository.specs.Rows.{Listing, transfers, walks}
 use Rattle.explorer.specs.declared.Round.{Round}
 use Rattle.explorer.specs.Fixed.{InRound}
 use Rattle.explorer.specs.Fused.{offered}
-use Rattle.explorer_footpaths.specs.declared.Footpaths.{Footpaths}
-use Rattle.explorer_footpaths.specs.declared.Footpaths.the-variants.{Transfers, Walks}
 use Rattle.explorer_footpaths.specs.declared.Foothold.{Foothold}
 
--- ---- the two lists of footpaths: their rows in the tables, the kind of their legs, what row j says, what stands under stop s
-unfoldable pub listingOf : Footpaths → Listing
-listingOf Transfers = transfers
-listingOf Walks = walks
-
-unfoldable pub kindOf : Footpaths → LegType
-kindOf Transfers = Transfer
-kindOf Walks = Walk
-
-unfoldable pub footRow : Footpaths → List ℕ → ℕ → Foot
-footRow Transfers w j = transferRow w j
-footRow Walks w j = walkRow w j
-
-unfoldable pub footsOf : Footpaths → Net → ℕ → List Foot
-footsOf Transfers n s = n .transfers s
-footsOf Walks n s = n .walks s
-
--- ---- where footpaths leave
 -- a moment of the timetable
 pub record Label (x : ℕ) : Type 0 where
   pub some : 0 < x
@@ -61,5 +38,5 @@ footFrom d n k target c s x f w =
     offered d (k * n) target (f .to) (walked d x (f .span)) (legOf d c s x (f .to) (walked d x (f .span))) w
 
 -- the same in a round o, from a foothold
-abbrev pub footBy : Round → Foothold → Foot → Work → Work
-footBy o g = footFrom (o .direction) (o .stops) (o .number) (o .target .0) (kindOf (g .list)) (g .stop) (g .label .0)
+abbrev pub footBy : Round → LegType → Foothold → Foot → Work → Work
+footBy o c g = footFrom (o .direction) (o .stops) (o .number) (o .target .0) c (g .stop) (g .label .0)

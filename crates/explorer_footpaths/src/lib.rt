@@ -2,17 +2,17 @@
 ghost use mathlib.Core.Path.{_≡_};
 ghost use Prim.Native.Nat.{_<_, _≤_};
 ghost use lib.ListN.{getD};
+ghost use Rattle.model.specs.declared.LegType.the-variants.{Transfer, Walk};
 ghost use Rattle.model.specs.Moments.{better};
 ghost use Rattle.model.specs.Footpaths.{walked};
-ghost use Rattle.repository.specs.Accepted.{Accepted};
-ghost use Rattle.repository.specs.NetOf.{netOf};
-ghost use Rattle.repository.specs.Rows.{firstRow, pastRow, rowCount, OfStop};
+ghost use Rattle.repository.specs.NetOf.{transferRow, walkRow, netOf};
+ghost use Rattle.repository.specs.Rows.{transfers, walks, OfStop};
 ghost use Rattle.allocator.specs.Layout.{Words, view, bestOf, heldOf};
 ghost use Rattle.allocator.specs.Does.{Usable, Does};
 ghost use Rattle.explorer.specs.Fixed.{InRound};
 ghost use Rattle.explorer.specs.Fused.{stopWork, feetWork};
 ghost use Rattle.explorer.specs.Turns.{inTurn};
-ghost use Rattle.explorer_footpaths.specs.Footing.{listingOf, kindOf, footRow, footsOf, Label, Footing, Leaving, footBy};
+ghost use Rattle.explorer_footpaths.specs.Footing.{Label, Footing, Leaving, footBy};
 use allocator::Offer;
 use explorer::Round;
 use marks::Next;
@@ -21,77 +21,10 @@ use model::LegType;
 use shared::Duration;
 use shared::Time;
 
-// The two lists of footpaths that stand under a stop.
-pub enum Footpaths {
-    Transfers,
-    Walks,
-}
-
-// A stop that footpaths leave: its label, as the rides of the round left it, and which of its lists is meant.
+// A stop that footpaths leave, and its label, as the rides of the round left it.
 pub struct Foothold {
     pub stop: u32,
     pub label: Time,
-    pub list: Footpaths,
-}
-
-// ---- one list or the other
-
-// The kind of its legs.
-fn kind_of(l: Footpaths) -> LegType
-    ensures { λ c. ⌜ c ≡ kindOf l ⌝ }
-{
-    match l {
-        Footpaths::Transfers => LegType::Transfer,
-        Footpaths::Walks => LegType::Walk,
-    }
-}
-
-// The first row of a stop.
-fn rows_from(tables: &[u32], l: Footpaths, s: u32) -> u32
-    requires { ⌜ Accepted (now tables) ⌝ }
-    requires { ⌜ s < netOf (now tables) .stops ⌝ }
-    ensures { λ a. ⌜ a ≡ firstRow (listingOf l) (now (tables .entry)) s ⌝ }
-{
-    match l {
-        Footpaths::Transfers => repository::footpaths::transfers_from(tables, s),
-        Footpaths::Walks => repository::footpaths::walks_from(tables, s),
-    }
-}
-
-// The row past its last.
-fn rows_to(tables: &[u32], l: Footpaths, s: u32) -> u32
-    requires { ⌜ Accepted (now tables) ⌝ }
-    requires { ⌜ s < netOf (now tables) .stops ⌝ }
-    ensures { λ b. ⌜ b ≡ pastRow (listingOf l) (now (tables .entry)) s ⌝ }
-{
-    match l {
-        Footpaths::Transfers => repository::footpaths::transfers_to(tables, s),
-        Footpaths::Walks => repository::footpaths::walks_to(tables, s),
-    }
-}
-
-// The stop that row j leads to.
-fn to_of(tables: &[u32], l: Footpaths, j: u32) -> u32
-    requires { ⌜ Accepted (now tables) ⌝ }
-    requires { ⌜ j < rowCount (listingOf l) (now tables) ⌝ }
-    ensures { λ s. ⌜ s ≡ (footRow l (now (tables .entry)) j) .to ⌝ }
-{
-    match l {
-        Footpaths::Transfers => repository::footpaths::transfer_to(tables, j),
-        Footpaths::Walks => repository::footpaths::walk_to(tables, j),
-    }
-}
-
-// How long it takes.
-fn span_of(tables: &[u32], l: Footpaths, j: u32) -> Duration
-    requires { ⌜ Accepted (now tables) ⌝ }
-    requires { ⌜ j < rowCount (listingOf l) (now tables) ⌝ }
-    ensures { λ x. ⌜ x .0 ≡ (footRow l (now (tables .entry)) j) .span ⌝ }
-{
-    match l {
-        Footpaths::Transfers => discovery::transfer_duration(tables, j),
-        Footpaths::Walks => discovery::walk_duration(tables, j),
-    }
 }
 
 // ---- one footpath
@@ -126,11 +59,12 @@ fn may_gain(words: &[u32], round: Round, x: Time, to: u32) -> bool
     allocator::is_better(d, x, best)
 }
 
-// A footpath to the stop `to`.
+// A footpath to the stop `to`, of one list or the other: `kind` is the kind of its leg.
 fn explore_path(
     words: &mut [u32],
     marks: &mut [u64],
     round: Round,
+    kind: LegType,
     from: Foothold,
     to: u32,
     span: Duration,
@@ -140,14 +74,12 @@ fn explore_path(
     requires { ⌜ Label (from .label .0) ⌝ }
     requires { ⌜ to < round .stops ⌝ }
     requires { ⌜ span .0 ≤ 86400 ⌝ }
-    ensures { λ _. ⌜ Does (round .stops) (round .routes) (footBy round from (record { to = to; span = span .0 }))
+    ensures { λ _. ⌜ Does (round .stops) (round .routes) (footBy round kind from (record { to = to; span = span .0 }))
         (now (words .entry)) (now (marks .entry)) (now (words .exit)) (now (marks .exit)) ⌝ }
 {
     let d = round.direction;
-    let l = from.list;
     let y = walked_at(d, from.label, span);
     if allocator::is_ahead(d, y, round.target) {
-        let kind = kind_of(l);
         let g = allocator::leg_of(d, kind, from.stop, from.label, to, y);
         let o = Offer {
             stop: to,
@@ -158,10 +90,10 @@ fn explore_path(
     }
 }
 
-// ---- the footpaths of a stop
+// ---- the footpaths of a stop: a loop for each list, each called in one place, so that the compiler sees which list it is
 
-// Row j of its list.
-fn explore_row(
+// Row j of the transfers.
+fn explore_transfer(
     tables: &[u32],
     words: &mut [u32],
     marks: &mut [u64],
@@ -170,32 +102,80 @@ fn explore_row(
     j: u32,
 )
     requires { ⌜ Leaving (now tables) round (from .stop) (from .label .0) ⌝ }
-    requires { ⌜ OfStop (listingOf (from .list)) (now tables) (from .stop) j ⌝ }
+    requires { ⌜ OfStop transfers (now tables) (from .stop) j ⌝ }
     requires { ⌜ Usable (round .stops) (round .routes) (now words) (now marks) ⌝ }
-    ensures { λ _. ⌜ Does (round .stops) (round .routes) (footBy round from (footRow (from .list) (now (tables .entry)) j))
+    ensures { λ _. ⌜ Does (round .stops) (round .routes) (footBy round Transfer from (transferRow (now (tables .entry)) j))
         (now (words .entry)) (now (marks .entry)) (now (words .exit)) (now (marks .exit)) ⌝ }
 {
-    let l = from.list;
-    let to = to_of(tables, l, j);
+    let to = repository::footpaths::transfer_to(tables, j);
     if may_gain(words, round, from.label, to) {
-        let span = span_of(tables, l, j);
-        explore_path(words, marks, round, from, to, span);
+        let span = discovery::transfer_duration(tables, j);
+        explore_path(words, marks, round, LegType::Transfer, from, to, span);
     }
 }
 
-// All rows of it.
-fn explore_rows(tables: &[u32], words: &mut [u32], marks: &mut [u64], round: Round, from: Foothold)
+// The transfers that are listed under a stop.
+fn explore_transfers_at(
+    tables: &[u32],
+    words: &mut [u32],
+    marks: &mut [u64],
+    round: Round,
+    from: Foothold,
+)
     requires { ⌜ Leaving (now tables) round (from .stop) (from .label .0) ⌝ }
     requires { ⌜ Usable (round .stops) (round .routes) (now words) (now marks) ⌝ }
     ensures { λ _. ⌜ Does (round .stops) (round .routes)
-        (inTurn (footBy round from) (footsOf (from .list) (netOf (now (tables .entry))) (from .stop)))
+        (inTurn (footBy round Transfer from) (netOf (now (tables .entry)) .transfers (from .stop)))
         (now (words .entry)) (now (marks .entry)) (now (words .exit)) (now (marks .exit)) ⌝ }
 {
-    let l = from.list;
-    let end = rows_to(tables, l, from.stop);
-    let mut j = rows_from(tables, l, from.stop);
+    let end = repository::footpaths::transfers_to(tables, from.stop);
+    let mut j = repository::footpaths::transfers_from(tables, from.stop);
     while j < end {
-        explore_row(tables, words, marks, round, from, j);
+        explore_transfer(tables, words, marks, round, from, j);
+        j += 1;
+    }
+}
+
+// Row j of the walks.
+fn explore_walk(
+    tables: &[u32],
+    words: &mut [u32],
+    marks: &mut [u64],
+    round: Round,
+    from: Foothold,
+    j: u32,
+)
+    requires { ⌜ Leaving (now tables) round (from .stop) (from .label .0) ⌝ }
+    requires { ⌜ OfStop walks (now tables) (from .stop) j ⌝ }
+    requires { ⌜ Usable (round .stops) (round .routes) (now words) (now marks) ⌝ }
+    ensures { λ _. ⌜ Does (round .stops) (round .routes) (footBy round Walk from (walkRow (now (tables .entry)) j))
+        (now (words .entry)) (now (marks .entry)) (now (words .exit)) (now (marks .exit)) ⌝ }
+{
+    let to = repository::footpaths::walk_to(tables, j);
+    if may_gain(words, round, from.label, to) {
+        let span = discovery::walk_duration(tables, j);
+        explore_path(words, marks, round, LegType::Walk, from, to, span);
+    }
+}
+
+// The walks that are listed under it.
+fn explore_walks_at(
+    tables: &[u32],
+    words: &mut [u32],
+    marks: &mut [u64],
+    round: Round,
+    from: Foothold,
+)
+    requires { ⌜ Leaving (now tables) round (from .stop) (from .label .0) ⌝ }
+    requires { ⌜ Usable (round .stops) (round .routes) (now words) (now marks) ⌝ }
+    ensures { λ _. ⌜ Does (round .stops) (round .routes)
+        (inTurn (footBy round Walk from) (netOf (now (tables .entry)) .walks (from .stop)))
+        (now (words .entry)) (now (marks .entry)) (now (words .exit)) (now (marks .exit)) ⌝ }
+{
+    let end = repository::footpaths::walks_to(tables, from.stop);
+    let mut j = repository::footpaths::walks_from(tables, from.stop);
+    while j < end {
+        explore_walk(tables, words, marks, round, from, j);
         j += 1;
     }
 }
@@ -210,19 +190,10 @@ fn explore_stop(tables: &[u32], words: &mut [u32], marks: &mut [u64], round: Rou
         (now (words .entry)) (now (marks .entry)) (now (words .exit)) (now (marks .exit)) ⌝ }
 {
     let x = allocator::held_at(words, round.stops, round.routes, s);
-    let transfers = Foothold {
-        stop: s,
-        label: x,
-        list: Footpaths::Transfers,
-    };
-    explore_rows(tables, words, marks, round, transfers);
+    let from = Foothold { stop: s, label: x };
+    explore_transfers_at(tables, words, marks, round, from);
     if round.walking {
-        let walks = Foothold {
-            stop: s,
-            label: x,
-            list: Footpaths::Walks,
-        };
-        explore_rows(tables, words, marks, round, walks);
+        explore_walks_at(tables, words, marks, round, from);
     }
 }
 

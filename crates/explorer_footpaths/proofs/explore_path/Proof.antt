@@ -10,9 +10,6 @@ walked-at-requires c κs = search needs
 is-ahead-requires : tie.Need-is-ahead-requires
 is-ahead-requires c κs = search needs
 
-kind-of-requires : tie.Need-kind-of-requires
-kind-of-requires c κs = search needs
-
 leg-of-requires : tie.Need-leg-of-requires
 leg-of-requires c κs = search needs
 
@@ -37,7 +34,6 @@ explore-path-spec =
     (tie.spec
     walked-at-requires
     is-ahead-requires
-    kind-of-requires
     leg-of-requires
     apply-requires
     same-length

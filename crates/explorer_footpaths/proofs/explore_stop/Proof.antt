@@ -7,11 +7,11 @@ use Rattle.explorer_footpaths.proofs.explore_stop.Tie as tie
 held-at-requires : tie.Need-held-at-requires
 held-at-requires c κs = search needs
 
-explore-rows-requires : tie.Need-explore-rows-requires
-explore-rows-requires c κs = (search (needs, leaving-at), search needs)
+explore-transfers-at-requires : tie.Need-explore-transfers-at-requires
+explore-transfers-at-requires c κs = (search (needs, leaving-at), search needs)
 
-explore-rows-requires-2 : tie.Need-explore-rows-requires-2
-explore-rows-requires-2 c κs = (search (needs, leaving-at), search needs)
+explore-walks-at-requires : tie.Need-explore-walks-at-requires
+explore-walks-at-requires c κs = (search (needs, leaving-at), search needs)
 
 same-length : tie.Need-same-length
 same-length c = search needs
@@ -36,8 +36,8 @@ explore-stop-spec =
     tie.close
     (tie.spec
     held-at-requires
-    explore-rows-requires
-    explore-rows-requires-2
+    explore-transfers-at-requires
+    explore-walks-at-requires
     same-length
     same-length-2
     returns

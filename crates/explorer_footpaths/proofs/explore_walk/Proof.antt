@@ -1,23 +1,23 @@
--- `explore_row`: the row leads to a stop, and takes no more than a day; where it can gain nothing, nothing is done.
+-- `explore_walk`: the row leads to a stop, and takes no more than a day; where it can gain nothing, nothing is done.
 use borrow.Author.Needs.{needs}
 use Rattle.repository.proofs.Ranges.{row-known}
 use Rattle.explorer_footpaths.proofs.Gaining.{path-lost}
-use Rattle.explorer_footpaths.proofs.Paths.{path-in, path-most, row-path}
-use Rattle.explorer_footpaths.proofs.explore_row.Statement.{statement}
-use Rattle.explorer_footpaths.proofs.explore_row.Tie as tie
+use Rattle.explorer_footpaths.proofs.Paths.{walk-in, walk-most, row-path}
+use Rattle.explorer_footpaths.proofs.explore_walk.Statement.{statement}
+use Rattle.explorer_footpaths.proofs.explore_walk.Tie as tie
 
-to-of-requires : tie.Need-to-of-requires
-to-of-requires c κs = search (needs, row-known)
+walk-to-requires : tie.Need-walk-to-requires
+walk-to-requires c κs = search (needs, row-known)
 
 may-gain-requires : tie.Need-may-gain-requires
-may-gain-requires c κs = (search needs, search (needs, path-in))
+may-gain-requires c κs = (search needs, search (needs, walk-in))
 
-span-of-requires : tie.Need-span-of-requires
-span-of-requires c κs = search (needs, row-known)
+walk-duration-requires : tie.Need-walk-duration-requires
+walk-duration-requires c κs = search (needs, row-known)
 
 explore-path-requires : tie.Need-explore-path-requires
 explore-path-requires c κs =
-    (search needs, (search needs, (search needs, (search (needs, path-in), search (needs, path-most)))))
+    (search needs, (search needs, (search needs, (search (needs, walk-in), search (needs, walk-most)))))
 
 same-length : tie.Need-same-length
 same-length c = search needs
@@ -34,13 +34,13 @@ same-length-3 c = search needs
 returns-2 : tie.Need-returns-2
 returns-2 c = record { holds = search (needs, path-lost); usable = search needs }
 
-pub explore-row-spec : {M : Type 1} → statement M
-explore-row-spec =
+pub explore-walk-spec : {M : Type 1} → statement M
+explore-walk-spec =
     tie.close
     (tie.spec
-    to-of-requires
+    walk-to-requires
     may-gain-requires
-    span-of-requires
+    walk-duration-requires
     explore-path-requires
     same-length
     same-length-2
