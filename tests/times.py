@@ -6,7 +6,7 @@ import glob, math, os, re, statistics, sys
 
 PAGE, MOST, FILES, SLOWER = "docs/CHECK-TIMES.md", 25, 2, {"x86-64": 1, "Arm": 1.58}
 # The crates that were there when the rule was made, and may take longer than a new one. The minutes of all bound them.
-OLD = "allocator explorer_rides raptor_rounds raptor kiosk_c replay check_listing telling kiosk querying".split()
+OLD = "discovery check_calls check_listing allocator explorer_rides raptor_rounds raptor kiosk_c replay telling querying kiosk".split()
 # The crates with more files of edits than two: how many, and why. None may have more than is said here.
 MORE = {
     "model": (51, "edits of definitions: every worked network runs the whole search, so a refusal does not tell which of two is meant; a check takes 5 seconds"),
