@@ -1,13 +1,10 @@
 -- A scan on its way along a route: the positions that are left lead, from the state of now, where all of them lead.
 use Prim.Native.Nat.{ℕ, zero, suc, _+_, _-_, _≤_, _<_}
 use mathlib.Core.Path.{_≡_, refl, sym, ap, _∙_, subst}
-use mathlib.Core.Bool.{Bool, true, false}
 use mathlib.Core.List.{List, [], _∷_}
 use native.Mathlib.Omega.{arith}
 use native.Mathlib.Numerals.{add-one}
-use lib.Dec.{ltb}
 use lib.ListN.{length, getD}
-use borrow.Author.Tests.{ltb-true, ltb-false}
 use Rattle.model.specs.declared.Aboard.the-variants.{Off}
 use Rattle.model.specs.declared.Direction.{Direction}
 use Rattle.model.specs.declared.Direction.the-variants.{Departure, Arrival}
@@ -24,7 +21,7 @@ use Rattle.explorer.specs.Fixed.{InRound}
 use Rattle.explorer.specs.Fused.{alightWork, scanWork}
 use Rattle.explorer_rides.specs.declared.Ride.{Ride}
 use Rattle.explorer_rides.specs.Riding.{aboard, Seated, Riding, Rideable, OnRoute}
-use Rattle.explorer_rides.specs.Left.{positionsBelow, positionsLeft, isLeft, firstLeft, restFrom, Within}
+use Rattle.explorer_rides.specs.Left.{positionsBelow, positionsLeft, backOf, Within}
 use Rattle.explorer_rides.proofs.Seats.{aboard-off, stop-room, call-at}
 
 down-below : (p : ℕ) → downto p ≡ p ∷ positionsBelow p
@@ -66,87 +63,74 @@ module _ {d : Direction} (n : Net) (r from : ℕ) where
   within-down e l = record { within = λ f. omega arith }
 
 -- ---- the positions that are left, as the code counts them
-module _ {d : Direction} (p : ℕ) where
-  pub left-departure : (end : ℕ) → d ≡ Departure → ltb p end ≡ isLeft d p end
-  unfolding isLeft
-  left-departure end e = rw e
+module _ {d : Direction} where
+  pub back-departure : d ≡ Departure → 0 ≡ backOf d
+  unfolding backOf
+  back-departure e = rw e
 
-  pub left-arrival : (end : ℕ) → d ≡ Arrival → ltb 0 p ≡ isLeft d p end
-  unfolding isLeft
-  left-arrival end e = rw e
+  pub back-arrival : d ≡ Arrival → 1 ≡ backOf d
+  unfolding backOf
+  back-arrival e = rw e
 
-  pub first-departure : d ≡ Departure → p ≡ firstLeft d p
-  unfolding firstLeft
-  first-departure e = rw e
+back-most : (d : Direction) → backOf d ≤ 1
+unfolding backOf
+back-most Departure = omega arith
+back-most Arrival = omega arith
 
-  pub first-arrival : d ≡ Arrival → p - 1 ≡ firstLeft d p
-  unfolding firstLeft
-  first-arrival e = rw e
-
-  pub first-none : d ≡ Arrival → p ≤ 0 → 0 ≡ firstLeft d p
-  unfolding firstLeft
-  first-none e l = let none : p ≡ 0 = omega arith in rw (e, none)
-
-  pub rest-departure : d ≡ Departure → p + 1 ≡ restFrom d p
-  unfolding restFrom
-  rest-departure e = rw e
-
-  pub rest-arrival : d ≡ Arrival → p ≡ restFrom d p
-  unfolding restFrom
-  rest-arrival e = rw e
-
-left-is : (d : Direction) (n : Net) (r p : ℕ) → isLeft d p (n .positions r) ≡ true
-    → positionsLeft d n r p ≡ firstLeft d p ∷ positionsLeft d n r (restFrom d (firstLeft d p))
-unfolding positionsLeft upto isLeft firstLeft restFrom
-left-is Departure n r p f =
-    let l = ltb-true p (n .positions r) f in
+left-is : (d : Direction) (n : Net) (r p : ℕ) → backOf d ≤ p → p < n .positions r + backOf d
+    → positionsLeft d n r p ≡ (p - backOf d) ∷ positionsLeft d n r (p - backOf d + 1 - backOf d)
+unfolding positionsLeft upto backOf
+left-is Departure n r p g l =
     let more : n .positions r - p ≡ suc (n .positions r - (p + 1)) = omega (arith, l) in
-    rw (more, add-one)
-left-is Arrival n r p f = below-down p (ltb-true 0 p f)
+    let here : p - 0 ≡ p = omega arith in
+    let next : p - 0 + 1 - 0 ≡ p + 1 = omega arith in
+    rw (next, here, more, add-one)
+left-is Arrival n r p g l =
+    let next : p - 1 + 1 - 1 ≡ p - 1 = omega (arith, g) in
+    rw next (below-down p g)
 
-left-not : (d : Direction) (n : Net) (r p : ℕ) → isLeft d p (n .positions r) ≡ false → positionsLeft d n r p ≡ []
-unfolding positionsLeft upto isLeft
-left-not Departure n r p f =
-    let l = ltb-false p (n .positions r) f in
+left-past : (d : Direction) (n : Net) (r p : ℕ) → n .positions r + backOf d ≤ p → Within d n r p → positionsLeft d n r p ≡ []
+unfolding positionsLeft upto backOf
+left-past Departure n r p l h =
     let past : n .positions r - p ≡ 0 = omega (arith, l) in
     rw past
-left-not Arrival n r p f = below-none p (ltb-false 0 p f)
+left-past Arrival n r p l h = absurd (omega (arith, l, h .within refl))
 
-first-in : (d : Direction) (n : Net) (r p : ℕ) → isLeft d p (n .positions r) ≡ true → Within d n r p → firstLeft d p < n .positions r
-unfolding isLeft firstLeft
-first-in Departure n r p f h = ltb-true p (n .positions r) f
-first-in Arrival n r p f h = omega (arith, ltb-true 0 p f, h .within refl)
+left-below : (d : Direction) (n : Net) (r p : ℕ) → p < backOf d → positionsLeft d n r p ≡ []
+unfolding positionsLeft backOf
+left-below Departure n r p l = absurd (omega (arith, l))
+left-below Arrival n r p l = below-none p (omega (arith, l))
 
-within-is : (d : Direction) (n : Net) (r p : ℕ) → Within d n r p → Within d n r (restFrom d (firstLeft d p))
-unfolding firstLeft restFrom
-within-is Departure n r p h = within-up n r (p + 1) refl
-within-is Arrival n r p h = record { within = λ f. omega (arith, h .within f) }
+within-is : (d : Direction) (n : Net) (r p : ℕ) → backOf d ≤ p → Within d n r p → Within d n r (p - backOf d + 1 - backOf d)
+unfolding backOf
+within-is Departure n r p g h = within-up n r _ refl
+within-is Arrival n r p g h = record { within = λ f. omega (arith, g, h .within f) }
 
-module _ (d : Direction) (n : Net) (r p : ℕ) {end : ℕ} {c : Bool} (e : end ≡ n .positions r) (f : c ≡ isLeft d p end) where
-  tested : {b : Bool} → c ≡ b → isLeft d p (n .positions r) ≡ b
-  tested g = ap (isLeft d p) (sym e) ∙ sym f ∙ g
+module _ (d : Direction) (n : Net) (r p : ℕ) {b end past : ℕ} (e : b ≡ backOf d) (f : end ≡ n .positions r) (k : past ≡ end + b) where
+  bound : past ≡ n .positions r + backOf d
+  bound = omega (arith, e, f, k)
 
-  pub left-none : c ≡ false → positionsLeft d n r p ≡ []
-  left-none g = left-not d n r p (tested g)
+  pub left-end : past ≤ p → Within d n r p → positionsLeft d n r p ≡ []
+  left-end l h = left-past d n r p (omega (arith, bound, l)) h
 
-  module _ {q : ℕ} (k : q ≡ firstLeft d p) (g : c ≡ true) where
-    pub first-room : Within d n r p → q < n .positions r
-    first-room h = rw k (first-in d n r p (tested g) h)
+  module _ (g : b ≤ p) (l : p < past) where
+    pub first-room : p - b < n .positions r
+    first-room = omega (arith, e, bound, g, l)
 
-    module _ {p′ : ℕ} (i : p′ ≡ restFrom d q) where
-      pub left-on : positionsLeft d n r p ≡ q ∷ positionsLeft d n r p′
-      left-on = rw (i, k) (left-is d n r p (tested g))
+    pub left-on : positionsLeft d n r p ≡ (p - b) ∷ positionsLeft d n r (p - b + 1 - b)
+    left-on = rw e (left-is d n r p (omega (arith, e, g)) (omega (arith, bound, l)))
 
-      shorter : length (positionsLeft d n r p′) < length (positionsLeft d n r p)
-      shorter = omega (arith, ap (λ (l : List ℕ). length l) left-on)
+    pub left-less : length (positionsLeft d n r (p - b + 1 - b)) < length (positionsLeft d n r p)
+    left-less = omega (arith, ap (λ (x : List ℕ). length x) left-on)
 
-pub left-less : (d : Direction) (n : Net) (r p : ℕ) {p′ q end : ℕ} {c : Bool} → q ≡ firstLeft d p → p′ ≡ restFrom d q
-    → end ≡ n .positions r → c ≡ isLeft d p end → c ≡ true → length (positionsLeft d n r p′) < length (positionsLeft d n r p)
-left-less d n r p k i e f g = shorter d n r p e f k g i
+    pub within-on : Within d n r p → Within d n r (p - b + 1 - b)
+    within-on h = rw e (within-is d n r p (omega (arith, e, g)) h)
 
-pub within-on : (d : Direction) (n : Net) (r : ℕ) {p q p′ : ℕ} → Within d n r p → q ≡ firstLeft d p → p′ ≡ restFrom d q
-    → Within d n r p′
-within-on d n r {p = p} h k i = rw (i, k) (within-is d n r p h)
+pub left-start : (d : Direction) (n : Net) (r p : ℕ) {b : ℕ} → b ≡ backOf d → p < b → positionsLeft d n r p ≡ []
+left-start d n r p e l = left-below d n r p (omega (arith, e, l))
+
+pub back-fits : (d : Direction) (q : ℕ) {b : ℕ} → b ≡ backOf d → b ≤ q + 1
+back-fits d q e = omega (arith, e, back-most d)
 
 pub mark-fits : {w : List ℕ} {o : Round} {r from x : ℕ} → InRound w o → r < o .routes → from ≡ x → x < netOf w .positions r
     → from + 1 < 4_294_967_296
@@ -170,9 +154,13 @@ module _ {w stops : List ℕ} {o : Round} {r : ℕ} (h : Rideable w o r stops) w
   pub known-call : {q : ℕ} → q < netOf w .positions r → OnRoute w (record { route = r; position = q; stop = getD stops q 0 })
   known-call l = call-at known-riding l
 
-  pub known-fits : {q : ℕ} → q < netOf w .positions r → q < 4_294_967_295
+  pub known-fits : {q : ℕ} → q < netOf w .positions r → q + 1 < 4_294_967_296
   unfolding netOf
   known-fits l = omega (arith, known-laid .positions-limit r known-route)
+
+  pub known-past : (d : Direction) {b end : ℕ} → b ≡ backOf d → end ≡ netOf w .positions r → end + b < 4_294_967_296
+  unfolding netOf
+  known-past d e f = omega (arith, e, f, back-most d, known-laid .positions-limit r known-route)
 
 module _ (w : List ℕ) (o : Round) (r : ℕ) (whole ws₀ ms₀ : List ℕ) where
   pub record Along (ws ms : List ℕ) (ride : Ride) (ps : List ℕ) : Type 0 where
