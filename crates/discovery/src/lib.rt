@@ -133,13 +133,13 @@ fn first_up(tables: &[u32], r: u32, p: u32, x: usize, from: u32, to: u32) -> u32
     first_between(tables, r, p, x, lo, to)
 }
 
-// That place, looked for around `near` first, which may be any number. Along a route it is nearly always that of the trip aboard or one
-// beside it; only elsewhere the halving is paid for, in which each step waits for the one before.
-fn first_near(tables: &[u32], r: u32, p: u32, x: usize, near: usize) -> u32
+// That place, looked for around `near` first, which may be any number; the route has n trips. Along a route it is nearly always that of the
+// trip aboard or one beside it; only elsewhere the halving is paid for, in which each step waits for the one before.
+fn first_near(tables: &[u32], r: u32, p: u32, x: usize, near: usize, n: u32) -> u32
     requires { ⌜ Along (now tables) r p ⌝ }
+    requires { ⌜ n ≡ netOf (now tables) .trips r ⌝ }
     ensures { λ i. ⌜ i ≡ firstNotBefore (netOf (now (tables .entry))) r p x ⌝ }
 {
-    let n = repository::routes::trips_of_route(tables, r);
     if near < n as usize {
         let i = near as u32;
         if is_not_before(tables, r, p, x, i) {
@@ -159,8 +159,9 @@ pub fn find_earliest_trip(tables: &[u32], r: u32, p: u32, label: Time, near: u32
     requires { ⌜ 0 < label .0 ⌝ }
     ensures { λ t. ⌜ t ≡ tripPlace Departure (netOf (now (tables .entry))) r p (label .0) ⌝ }
 {
-    let i = first_near(tables, r, p, label.0 as usize, near as usize);
-    if i < repository::routes::trips_of_route(tables, r) {
+    let n = repository::routes::trips_of_route(tables, r);
+    let i = first_near(tables, r, p, label.0 as usize, near as usize, n);
+    if i < n {
         return Trip::At(i);
     }
     Trip::Nothing
@@ -175,7 +176,8 @@ pub fn find_latest_trip(tables: &[u32], r: u32, p: u32, label: Time, near: u32) 
     requires { ⌜ 0 < label .0 ⌝ }
     ensures { λ t. ⌜ t ≡ tripPlace Arrival (netOf (now (tables .entry))) r p (label .0) ⌝ }
 {
-    let i = first_near(tables, r, p, label.0 as usize + 1, near as usize + 1);
+    let n = repository::routes::trips_of_route(tables, r);
+    let i = first_near(tables, r, p, label.0 as usize + 1, near as usize + 1, n);
     if i == 0 {
         return Trip::Nothing;
     }

@@ -1,14 +1,8 @@
 -- `first_near`: each way begins with a bracket around the place that is looked for.
 use borrow.Author.Needs.{needs}
-use Rattle.discovery.proofs.Near.{along-readable, whole, begin-down, begin-up}
+use Rattle.discovery.proofs.Near.{whole, begin-down, begin-up}
 use Rattle.discovery.proofs.first_near.Statement.{statement}
 use Rattle.discovery.proofs.first_near.Tie as tie
-
-trips-of-route-requires : tie.Need-trips-of-route-requires
-trips-of-route-requires c κs = search (needs, along-readable)
-
-cast-if1 : tie.Need-cast-if1
-cast-if1 c = search needs
 
 cast-i : tie.Need-cast-i
 cast-i c = search needs
@@ -41,8 +35,6 @@ pub first-near-spec : {M : Type 1} → statement M
 first-near-spec =
     tie.close
     (tie.spec
-    trips-of-route-requires
-    cast-if1
     cast-i
     is-not-before-requires
     first-down-requires
