@@ -10,7 +10,7 @@ use Rattle.base.specs.Tab.{tab}
 use Rattle.model.specs.declared.Query.{Query}
 use Rattle.model.specs.Tables.{Net}
 use Rattle.model.specs.Answer.{answer}
-use Rattle.model.specs.Sound.{Sound}
+use Rattle.model.specs.Sound.{Sound, SoundPlaces}
 use Rattle.model.specs.Alike.{Alike}
 use Rattle.model.specs.Same.{Same, SamePlaces}
 use Rattle.model.proofs.SameAnswer.{answer-same}
@@ -52,6 +52,6 @@ module _ {n m : Net} (a : Alike n m) where
   }
 
   -- every query, buffer and workspace gets the same answer
-  pub alike-answered : Sound n → (q : Query) (fault : ℕ) (sized : Bool) (room : ℕ)
+  pub alike-answered : Sound n → SoundPlaces n → (q : Query) (fault : ℕ) (sized : Bool) (room : ℕ)
       → answer fault sized n q room ≡ answer fault sized m q room
-  alike-answered ok q fault sized room = answer-same alike-same alike-places ok q fault sized room
+  alike-answered ok places q fault sized room = answer-same alike-same alike-places ok places q fault sized room

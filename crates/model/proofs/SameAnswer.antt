@@ -23,7 +23,7 @@ use Rattle.model.specs.Left.{placed, workspaceOf, written, journeyLeft}
 use Rattle.model.specs.Round.{listed}
 use Rattle.model.specs.Search.{search}
 use Rattle.model.specs.Back.{journey}
-use Rattle.model.specs.Sound.{Sound}
+use Rattle.model.specs.Sound.{Sound, SoundPlaces}
 use Rattle.model.proofs.Answers.{unrefused}
 use Rattle.model.specs.Same.{Same, SamePlaces}
 use Rattle.model.proofs.SameRides.{gather-same}
@@ -39,7 +39,7 @@ left-as-found : (n : Net) (q : Query) (fault : ℕ) (sized : Bool) (buffer : Lis
 unfolding journeyLeft answer unless written
 left-as-found n q fault sized buffer k g = rw (g, unless, written)
 
-module _ {n m : Net} (e : Same n m) (f : SamePlaces n m) (ok : Sound n) where
+module _ {n m : Net} (e : Same n m) (f : SamePlaces n m) (ok : Sound n) (places : SoundPlaces n) where
   exists-same : (l : Location) → exists n l ≡ exists m l
   unfolding exists
   exists-same (Stop s) = rw (e .stops)
@@ -54,14 +54,14 @@ module _ {n m : Net} (e : Same n m) (f : SamePlaces n m) (ok : Sound n) where
   unfolding stopsOfArea
   area-same a h =
       gather-same (λ s. servedOf n (n .children s)) (λ s. servedOf m (m .children s))
-      (each-in {Q = λ s. s < n .stops} (n .areaStops a) (λ s i. ok .areas-in a s h i))
-      (λ s l. served-same (each-in (n .children s) (λ c i. ok .children-in s c l i)) ∙ ap (servedOf m) (f .children s l))
+      (each-in {Q = λ s. s < n .stops} (n .areaStops a) (λ s i. places .areas-in a s h i))
+      (λ s l. served-same (each-in (n .children s) (λ c i. places .children-in s c l i)) ∙ ap (servedOf m) (f .children s l))
       ∙ ap (gather (λ s. servedOf m (m .children s))) (f .area-stops a h)
 
   stop-same : (s : ℕ) → s < n .stops → (o : Option ℕ) → n .station s ≡ o → stopsOfStop n s o ≡ stopsOfStop m s o
   unfolding stopsOfStop
   stop-same s h none g = rw (f .children s h)
-  stop-same s h (some p) g = f .children p (ok .station-in s p h g)
+  stop-same s h (some p) g = f .children p (places .station-in s p h g)
 
   place-same : (l : Location) → exists n l ≡ true → placeStops n l ≡ placeStops m l
   unfolding placeStops exists

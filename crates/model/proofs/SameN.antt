@@ -13,7 +13,7 @@ use Rattle.model.specs.Tables.{Net}
 use Rattle.model.specs.Answer.{answer}
 use Rattle.model.specs.Alike.{Alike}
 use Rattle.model.proofs.Examples.{N, N-with, net, no-route, no-trip, among, serving, passed, naming, allTrips, tripsBefore}
-use Rattle.model.proofs.SoundN.{N-sound}
+use Rattle.model.proofs.SoundN.{N-sound, N-sound-places}
 use Rattle.model.specs.Same.{Same, SamePlaces}
 use Rattle.model.proofs.Alike.{alike-same, alike-places, alike-answered}
 
@@ -76,4 +76,4 @@ N-beyond-places = alike-places N-beyond-alike
 
 pub N-beyond-answered : (q : Query) (fault : ℕ) (sized : Bool) (room : ℕ)
     → answer fault sized N q room ≡ answer fault sized N-beyond q room
-N-beyond-answered = alike-answered N-beyond-alike N-sound
+N-beyond-answered = alike-answered N-beyond-alike N-sound N-sound-places

@@ -12,11 +12,11 @@ listed-indexed h = record {
   trip-long = h .trip-long;
   call-route = h .call-route;
   call-first-in = h .call-first-in;
-  call-last-in = h .call-last-in;
   call-first = h .call-first;
-  call-last = h .call-last;
   call-rise = h .call-rise;
-  call-all = h .call-all;
+  call-all = λ r p i l.
+      let c = h .call-all r p i l in
+      record { row = c .row; under = c .under; route = c .route; first = c .first };
   transfer-to = h .transfer-to;
   walk-to = h .walk-to;
 }
@@ -37,5 +37,5 @@ pub accepted-readable : {w : List ℕ} → Accepted w → Readable w
 accepted-readable h = searchable-readable (accepted-searchable h)
 
 -- "no number 3": a law, and not a field that crates above project
-pub accepted-timed : {w : List ℕ} → Accepted w → Timed (netOf w)
-accepted-timed h = h .timed
+pub searchable-timed : {w : List ℕ} → Searchable w → Timed (netOf w)
+searchable-timed h = h .timed

@@ -11,7 +11,7 @@ use Rattle.model.specs.Tables.{Net}
 use Rattle.model.specs.Choosing.{firstPosition}
 use Rattle.repository.specs.Sections.{sec, CALL-STARTS, callRoute, callFirst}
 use Rattle.repository.specs.NetOf.{netOf}
-use Rattle.repository.specs.Accepted.{Called, Accepted}
+use Rattle.repository.specs.Readable.{CalledFrom, Searchable}
 use Rattle.repository.specs.Rows.{calls, startsOf, firstRow, pastRow, OfStop, rest}
 use Rattle.repository.proofs.Tabs.{Ascending, tab-ascends}
 use Rattle.repository.proofs.Lists.{calls-are, rest-said, rest-says}
@@ -31,7 +31,7 @@ record Row (w : List ℕ) (s r p : ℕ) : Type 0 where
   pub route : callRoute w row ≡ r
   pub first : callFirst w row ≤ p
 
-module _ {w : List ℕ} (h : Accepted w) {s : ℕ} where
+module _ {w : List ℕ} (h : Searchable w) {s : ℕ} where
   -- the routes of a stop's rows ascend
   climbs : (d i : ℕ) → OfStop calls w s i → i + suc d < pastRow calls w s → callRoute w i < callRoute w (i + suc d)
   unfolding netOf startsOf firstRow pastRow
@@ -40,7 +40,7 @@ module _ {w : List ℕ} (h : Accepted w) {s : ℕ} where
       next : (j : ℕ) → sec w CALL-STARTS s ≤ j → j + 1 < sec w CALL-STARTS (s + 1) → callRoute w j < callRoute w (j + 1)
       next j f g =
           let back : j + 1 - 1 ≡ j = omega arith in
-          rw back at (h .listed .call-rise s (j + 1) (o .stop) (omega arith) g)
+          rw back at (h .indexed .call-rise s (j + 1) (o .stop) (omega arith) g)
 
       by : (d : ℕ) → i + suc d < sec w CALL-STARTS (s + 1) → callRoute w i < callRoute w (i + suc d)
       by zero g = next i (o .from) g
@@ -66,7 +66,7 @@ module _ {w : List ℕ} (h : Accepted w) {s : ℕ} where
       → Row w s r p
   unfolding netOf startsOf firstRow pastRow
   called i {r} {p} hr hp e =
-      let c : Called w r p s = rw e at (h .listed .call-all r p hr hp) in
+      let c : CalledFrom w r p s = rw e at (h .indexed .call-all r p hr hp) in
       record {
         row = c .row;
         of = record { stop = i; from = c .under .from; past = c .under .to };
@@ -77,7 +77,7 @@ module _ {w : List ℕ} (h : Accepted w) {s : ℕ} where
   module _ {j : ℕ} (o : OfStop calls w s j) where
     at-first : netOf w .stopAt (callRoute w j) (callFirst w j) ≡ s
     unfolding netOf startsOf
-    at-first = h .listed .call-first s j (o .stop) (under calls o)
+    at-first = h .indexed .call-first s j (o .stop) (under calls o)
 
     before-first : (p : ℕ) → p < callFirst w j → netOf w .stopAt (callRoute w j) p ≡ s → ⊥
     before-first p l e =
@@ -98,7 +98,7 @@ first-at n r s (suc m) p i l g e b =
       | no k ↦ let same : i ≡ p = omega arith in rw (same, eq-eqb _ _ e)
     ]
 
-module _ {w : List ℕ} (h : Accepted w) {s : ℕ} where
+module _ {w : List ℕ} (h : Searchable w) {s : ℕ} where
   pub first-position : {j r p : ℕ} → OfStop calls w s j → r ≡ callRoute w j → p ≡ callFirst w j
       → p ≡ firstPosition (netOf w) r s (upto (netOf w .positions r) 0)
   first-position {j} o e f =
@@ -130,7 +130,7 @@ module _ {w : List ℕ} (h : Accepted w) {s : ℕ} where
         says = sym (y .route);
       }))
 
-rows-ascend : {w : List ℕ} → Accepted w → {s : ℕ} → s < netOf w .stops
+rows-ascend : {w : List ℕ} → Searchable w → {s : ℕ} → s < netOf w .stops
     → Ascending (rest (callRoute w) (firstRow calls w s) (pastRow calls w s))
 unfolding rest
 rows-ascend {w} h {s} i =
@@ -138,5 +138,5 @@ rows-ascend {w} h {s} i =
     (λ j k l g m.
     routes-ascend h (of-stop calls i refl l refl (omega arith)) (of-stop calls i refl (omega arith) refl (omega arith)) g)
 
-pub routes-ascending : {w : List ℕ} → Accepted w → {s : ℕ} → s < netOf w .stops → Ascending (netOf w .routesOf s)
+pub routes-ascending : {w : List ℕ} → Searchable w → {s : ℕ} → s < netOf w .stops → Ascending (netOf w .routesOf s)
 routes-ascending {w} h {s} i = rw (calls-are w s refl refl) (rows-ascend h i)

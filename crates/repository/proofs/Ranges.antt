@@ -1,4 +1,4 @@
--- Accepted tables name nothing that is not there: each number that a reader returns is in range for the next.
+-- Searchable tables name nothing that is not there: each number that a reader returns is in range for the next.
 use Prim.Native.Nat.{ℕ, _+_, _*_, _≤_, _<_}
 use mathlib.Core.Path.{_≡_}
 use mathlib.Core.Bool.{false}
@@ -15,7 +15,8 @@ use Rattle.model.specs.Limits.{MOST-STOPS, MOST-ROUTES, LONGEST-SPAN}
 use Rattle.repository.specs.Sections.{stops, callRoute, callFirst, transferStated}
 use Rattle.repository.specs.NetOf.{transferRow, walkRow, netOf}
 use Rattle.repository.specs.Laid.{Laid}
-use Rattle.repository.specs.Accepted.{Under, Accepted}
+use Rattle.repository.specs.Accepted.{Under}
+use Rattle.repository.specs.Readable.{Searchable}
 use Rattle.repository.specs.Rows.{Listing, calls, transfers, walks, startsOf, wideOf, firstRow, pastRow, rowCount}
 use Rattle.repository.specs.Rows.{OfStop}
 use Rattle.repository.proofs.Rooms.{past-in}
@@ -45,31 +46,31 @@ under l o = record { from = o .from; to = o .past }
 pub row-known : (l : Listing) {w : List ℕ} {s j : ℕ} → Laid w → OfStop l w s j → j < rowCount l w
 row-known l h o = omega (arith, o .past, past-in l h (o .stop))
 
-module _ {w : List ℕ} {s j : ℕ} (h : Accepted w) (o : OfStop calls w s j) where
+module _ {w : List ℕ} {s j : ℕ} (h : Searchable w) (o : OfStop calls w s j) where
   stop-in : s < stops w
   unfolding netOf
   stop-in = o .stop
 
   pub route-known : {r : ℕ} → r ≡ callRoute w j → r < netOf w .routes
   unfolding netOf startsOf
-  route-known e = rw e (h .listed .call-route s j stop-in (under calls o))
+  route-known e = rw e (h .indexed .call-route s j stop-in (under calls o))
 
   pub position-known : {r p : ℕ} → r ≡ callRoute w j → p ≡ callFirst w j → p < netOf w .positions r
   unfolding netOf startsOf
-  position-known e f = rw (e, f) (h .listed .call-first-in s j stop-in (under calls o))
+  position-known e f = rw (e, f) (h .indexed .call-first-in s j stop-in (under calls o))
 
 -- ---- footpaths: where they lead, and how long they take
 
-pub transfer-known : {w : List ℕ} {s j u : ℕ} → Accepted w → OfStop transfers w s j → u ≡ (transferRow w j) .to
+pub transfer-known : {w : List ℕ} {s j u : ℕ} → Searchable w → OfStop transfers w s j → u ≡ (transferRow w j) .to
     → u < netOf w .stops
 unfolding netOf transferRow startsOf
-transfer-known {s = s} {j = j} h o e = rw e (h .listed .transfer-to s j (o .stop) (under transfers o))
+transfer-known {s = s} {j = j} h o e = rw e (h .indexed .transfer-to s j (o .stop) (under transfers o))
 
-pub walk-known : {w : List ℕ} {j u : ℕ} → Accepted w → j < rowCount walks w → u ≡ (walkRow w j) .to → u < netOf w .stops
+pub walk-known : {w : List ℕ} {j u : ℕ} → Searchable w → j < rowCount walks w → u ≡ (walkRow w j) .to → u < netOf w .stops
 unfolding netOf walkRow rowCount startsOf wideOf
-walk-known {j = j} h i e = rw e (h .listed .walk-to j i)
+walk-known {j = j} h i e = rw e (h .indexed .walk-to j i)
 
-pub transfer-short : {w : List ℕ} {j x : ℕ} → Accepted w → j < rowCount transfers w → x ≡ (transferRow w j) .span
+pub transfer-short : {w : List ℕ} {j x : ℕ} → Searchable w → j < rowCount transfers w → x ≡ (transferRow w j) .span
     → x ≤ LONGEST-SPAN
 unfolding transferRow transferSpan rowCount startsOf wideOf
 transfer-short {w} {j} h i e =
@@ -82,6 +83,6 @@ transfer-short {w} {j} h i e =
     stated t (inl same) = absurd (eqb-false _ _ t same)
     stated t (inr l) = l
 
-pub walk-short : {w : List ℕ} {j x : ℕ} → Accepted w → j < rowCount walks w → x ≡ (walkRow w j) .span → x ≤ LONGEST-SPAN
+pub walk-short : {w : List ℕ} {j x : ℕ} → Searchable w → j < rowCount walks w → x ≡ (walkRow w j) .span → x ≤ LONGEST-SPAN
 unfolding walkRow walkSpan rowCount startsOf wideOf
 walk-short {j = j} h i e = rw e (omega (arith, span-most _ (h .measured .walks j i)))

@@ -18,6 +18,7 @@ use Rattle.repository.specs.Sections.{transferBits, transferMetres, walk
 use Rattle.repository.specs.NetOf.{count, listOf, stationOf, netOf}
 use Rattle.repository.specs.Laid.{Laid}
 use Rattle.repository.specs.Accepted.{Accepted}
+use Rattle.repository.specs.Readable.{Searchable}
 use Rattle.repository.specs.Entries.{Entry, Part, EntryWords}
 use Rattle.repository.specs.Rows.{Listing, calls, transfers, walks, startsOf, wideOf, rowCount, pastRow}
 use Rattle.repository.specs.Rows.{timeCount}
@@ -98,11 +99,11 @@ module _ {w : List ℕ} (row p : ℕ) (h : Laid w) (i : row + p < timeCount w) w
   unfolding timeCount
   departure-room = row-room h TIMES TIME-WORDS (omega arith) i (omega arith)
 
--- the metres of accepted tables
+-- the metres of searchable tables
 pub stretch-of : (bits : ℕ) (d : Float) → Stretch (ofBits binary32 bits) → d ≡ ofBits binary32 bits → Stretch d
 stretch-of bits d h e = rw e h
 
-module _ {w : List ℕ} (j : ℕ) {bits : ℕ} (h : Accepted w) where
+module _ {w : List ℕ} (j : ℕ) {bits : ℕ} (h : Searchable w) where
   pub transfer-stretch : j < rowCount transfers w → bits ≡ transferBits w j → Stretch (ofBits binary32 bits)
   unfolding rowCount startsOf wideOf
   transfer-stretch i e = rw e (h .measured .transfers j i)

@@ -12,16 +12,17 @@ use Rattle.repository.specs.declared.places.Station.the-variants.{At, No
 use Rattle.repository.specs.Sections.{sec, stops, STATIONS, ROUTE-STOP-STARTS}
 use Rattle.repository.specs.NetOf.{count, stationOf, netOf}
 use Rattle.repository.specs.Accepted.{Accepted}
+use Rattle.repository.specs.Readable.{Searchable}
 use Rattle.repository.specs.Station.{stationIs}
 use Rattle.repository.proofs.Rooms.{stop-of-route}
 
-pub stop-known : {w : List ℕ} {r p s : ℕ} → Accepted w → r < netOf w .routes → p < netOf w .positions r
+pub stop-known : {w : List ℕ} {r p s : ℕ} → Searchable w → r < netOf w .routes → p < netOf w .positions r
     → s ≡ netOf w .stopAt r p
     → s < netOf w .stops
 unfolding netOf count
 stop-known {w} {r} {p} h i l e =
     let t = stop-of-route (h .laid) i in
-    rw e (h .listed .stop-in (sec w ROUTE-STOP-STARTS r + p) (omega (arith, t .within, t .entry .rise)))
+    rw e (h .indexed .stop-in (sec w ROUTE-STOP-STARTS r + p) (omega (arith, t .within, t .entry .rise)))
 
 module _ {w : List ℕ} {s : ℕ} (h : Accepted w) (i : s < netOf w .stops) where
   pub station-in : {p : ℕ} → netOf w .station s ≡ some p → p < netOf w .stops

@@ -7,11 +7,12 @@ use Rattle.model.specs.Tables.{Net}
 use Rattle.model.specs.Limits.{MOST-TRIPS}
 use Rattle.repository.specs.Sections.{sec, ROUTE-TRIP-STARTS, TIME-STARTS, arrivalIn, departureIn}
 use Rattle.repository.specs.NetOf.{count, netOf}
-use Rattle.repository.specs.Accepted.{Under, Accepted}
+use Rattle.repository.specs.Accepted.{Under}
+use Rattle.repository.specs.Readable.{Searchable}
 use Rattle.repository.specs.Rows.{TripOf, Stands, tripCount, timeCount, timeRow}
 use Rattle.repository.proofs.Rooms.{starts-top, trip-of-route}
 
-module _ {w : List ℕ} {r v : ℕ} (h : Accepted w) (i : r < netOf w .routes) (t : TripOf (netOf w) r v) where
+module _ {w : List ℕ} {r v : ℕ} (h : Searchable w) (i : r < netOf w .routes) (t : TripOf (netOf w) r v) where
   trip-under : Under w ROUTE-TRIP-STARTS r (sec w ROUTE-TRIP-STARTS r + t .place)
   unfolding netOf count
   trip-under = record { from = omega arith; to = omega (arith, t .within) }
@@ -21,11 +22,11 @@ module _ {w : List ℕ} {r v : ℕ} (h : Accepted w) (i : r < netOf w .routes) (
   trip-known =
       let u = trip-under in
       let words = trip-of-route (h .laid) i in
-      rw (t .trip) (h .listed .trip-in (sec w ROUTE-TRIP-STARTS r + t .place) (omega (arith, u .to, words .within)))
+      rw (t .trip) (h .indexed .trip-in (sec w ROUTE-TRIP-STARTS r + t .place) (omega (arith, u .to, words .within)))
 
   pub trip-long : count w TIME-STARTS v ≡ netOf w .positions r
   unfolding netOf
-  trip-long = rw (t .trip) (h .listed .trip-long r (sec w ROUTE-TRIP-STARTS r + t .place) i trip-under)
+  trip-long = rw (t .trip) (h .indexed .trip-long r (sec w ROUTE-TRIP-STARTS r + t .place) i trip-under)
 
   pub time-known : {p row : ℕ} → p < netOf w .positions r → row ≡ timeRow w v → row + p < timeCount w
   unfolding timeRow timeCount count tripCount
@@ -37,12 +38,12 @@ pub place-of-trip : {n : Net} {r i v : ℕ} → i < n .trips r → v ≡ n .trip
 place-of-trip {i = i} l e = record { place = i; within = l; trip = e }
 
 -- "16,384 trips"
-pub trip-few : {w : List ℕ} {r i : ℕ} → Accepted w → r < netOf w .routes → i < netOf w .trips r → netOf w .tripAt r i < MOST-TRIPS
+pub trip-few : {w : List ℕ} {r i : ℕ} → Searchable w → r < netOf w .routes → i < netOf w .trips r → netOf w .tripAt r i < MOST-TRIPS
 unfolding tripCount
 trip-few {w} {r} {i} h l k =
     let most = h .laid .trips-limit in omega (arith, trip-known {r = r} h l (place-of-trip {n = netOf w} {r = r} {i = i} k refl))
 
-pub stands : {w : List ℕ} {r v p : ℕ} → Accepted w → r < netOf w .routes → TripOf (netOf w) r v
+pub stands : {w : List ℕ} {r v p : ℕ} → Searchable w → r < netOf w .routes → TripOf (netOf w) r v
     → p < netOf w .positions r → Stands w v p
 stands h i t l = record { trip = trip-known h i t; row = time-known h i t l refl }
 

@@ -4,7 +4,7 @@ ghost use Prim.Native.Nat.{_<_, _≤_};
 ghost use Rattle.shared.specs.Walk.{Stretch};
 ghost use Rattle.repository.specs.Sections.{transferStated, transferMetres, walkMetres};
 ghost use Rattle.repository.specs.Laid.{Laid};
-ghost use Rattle.repository.specs.Accepted.{Accepted};
+ghost use Rattle.repository.specs.Readable.{Searchable};
 ghost use Rattle.repository.specs.NetOf.{netOf, transferRow, walkRow};
 ghost use Rattle.repository.specs.Rows.{transfers, walks, firstRow, pastRow, rowCount};
 use crate::sections;
@@ -53,7 +53,7 @@ pub fn transfer_stated(tables: &[u32], j: u32) -> Duration
 
 // Its metres.
 pub fn transfer_metres(tables: &[u32], j: u32) -> Distance
-    requires { ⌜ Accepted (now tables) ⌝ }
+    requires { ⌜ Searchable (now tables) ⌝ }
     requires { ⌜ j < rowCount transfers (now tables) ⌝ }
     ensures { λ d. ⌜ d .0 ≡ transferMetres (now (tables .entry)) j ⌝ }
     ensures { λ d. ⌜ Stretch (d .0) ⌝ }
@@ -94,7 +94,7 @@ pub fn walk_to(tables: &[u32], j: u32) -> u32
 
 // Its metres.
 pub fn walk_metres(tables: &[u32], j: u32) -> Distance
-    requires { ⌜ Accepted (now tables) ⌝ }
+    requires { ⌜ Searchable (now tables) ⌝ }
     requires { ⌜ j < rowCount walks (now tables) ⌝ }
     ensures { λ d. ⌜ d .0 ≡ walkMetres (now (tables .entry)) j ⌝ }
     ensures { λ d. ⌜ Stretch (d .0) ⌝ }
