@@ -7,9 +7,8 @@ use native.Mathlib.Omega.{arith}
 use Rattle.base.specs.Halving.{Bracket}
 use Rattle.base.proofs.Halving.{bracket-none, bracket-up, bracket-down, bracket-done}
 use Rattle.model.specs.Tables.{Net}
-use Rattle.repository.specs.Accepted.{Accepted}
-use Rattle.repository.specs.Readable.{Readable}
-use Rattle.repository.proofs.Asked.{accepted-readable}
+use Rattle.repository.specs.Readable.{Readable, Searchable}
+use Rattle.repository.proofs.Asked.{searchable-readable}
 use Rattle.repository.specs.NetOf.{netOf}
 use Rattle.repository.specs.Rows.{Stands}
 use Rattle.repository.proofs.Trips.{place-of-trip, stands}
@@ -17,12 +16,12 @@ use Rattle.discovery.specs.Trips.{Along, notBefore, firstNotBefore}
 use Rattle.discovery.proofs.Tests.{not-before-rising}
 
 -- what the tables say along a route
-pub along : {w : List ℕ} {r p : ℕ} → Accepted w → r < netOf w .routes → p < netOf w .positions r → Along w r p
+pub along : {w : List ℕ} {r p : ℕ} → Searchable w → r < netOf w .routes → p < netOf w .positions r → Along w r p
 along h i l = record { known = λ u. h; route = i; position = l }
 
 module _ {w : List ℕ} {r p : ℕ} (z : Along w r p) where
   pub along-readable : Readable w
-  along-readable = accepted-readable (z .known tt)
+  along-readable = searchable-readable (z .known tt)
 
   pub along-stands : {i v : ℕ} → i < netOf w .trips r → v ≡ netOf w .tripAt r i → Stands w v p
   along-stands l e = stands (z .known tt) (z .route) (place-of-trip l e) (z .position)

@@ -7,14 +7,14 @@ use Rattle.base.specs.First.{first}
 use Rattle.model.specs.declared.Direction.{Direction}
 use Rattle.model.specs.declared.Direction.the-variants.{Departure, Arrival}
 use Rattle.model.specs.Tables.{Net}
-use Rattle.repository.specs.Accepted.{Accepted}
+use Rattle.repository.specs.Readable.{Searchable}
 use Rattle.repository.specs.NetOf.{netOf}
 use Rattle.discovery.specs.declared.Trip.{Trip}
 use Rattle.discovery.specs.declared.Trip.the-variants.{At, Nothing}
 
--- a position of a route of accepted tables; their many facts stand behind a function, so that only who asks for them has them
+-- a position of a route of searchable tables; their many facts stand behind a function, so that only who asks for them has them
 pub record Along (w : List ℕ) (r p : ℕ) : Type 0 where
-  pub known : Unit {0} → Accepted w
+  pub known : Unit {0} → Searchable w
   pub route : r < netOf w .routes
   pub position : p < netOf w .positions r
 

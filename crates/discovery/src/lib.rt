@@ -8,8 +8,7 @@ ghost use Rattle.model.specs.Lists.{upto};
 ghost use Rattle.model.specs.declared.Direction.the-variants.{Departure, Arrival};
 ghost use Rattle.model.specs.Choosing.{firstPosition};
 ghost use Rattle.repository.specs.Sections.{callRoute, callFirst};
-ghost use Rattle.repository.specs.Readable.{Readable};
-ghost use Rattle.repository.specs.Accepted.{Accepted};
+ghost use Rattle.repository.specs.Readable.{Readable, Searchable};
 ghost use Rattle.repository.specs.NetOf.{transferRow, walkRow, netOf};
 ghost use Rattle.repository.specs.Rows.{calls, transfers, walks, rowCount, OfStop, Stands};
 ghost use Rattle.discovery.specs.Trips.{Along, notBefore, firstNotBefore, tripPlace};
@@ -153,7 +152,7 @@ fn first_near(tables: &[u32], r: u32, p: u32, x: usize, near: usize, n: u32) -> 
 // The first trip of a route that arrives at position p not before the label, which is a moment: an absent label is
 // passed over before any lookup. The trip at place `near` is looked at first.
 pub fn find_earliest_trip(tables: &[u32], r: u32, p: u32, label: Time, near: u32) -> Trip
-    requires { ⌜ Accepted (now tables) ⌝ }
+    requires { ⌜ Searchable (now tables) ⌝ }
     requires { ⌜ r < netOf (now tables) .routes ⌝ }
     requires { ⌜ p < netOf (now tables) .positions r ⌝ }
     requires { ⌜ 0 < label .0 ⌝ }
@@ -170,7 +169,7 @@ pub fn find_earliest_trip(tables: &[u32], r: u32, p: u32, label: Time, near: u32
 // The last trip of a route that arrives at position p not after the label, which is a moment: it stands before the first that arrives a
 // second later or more. The trip at place `near` is looked at first.
 pub fn find_latest_trip(tables: &[u32], r: u32, p: u32, label: Time, near: u32) -> Trip
-    requires { ⌜ Accepted (now tables) ⌝ }
+    requires { ⌜ Searchable (now tables) ⌝ }
     requires { ⌜ r < netOf (now tables) .routes ⌝ }
     requires { ⌜ p < netOf (now tables) .positions r ⌝ }
     requires { ⌜ 0 < label .0 ⌝ }
@@ -187,7 +186,7 @@ pub fn find_latest_trip(tables: &[u32], r: u32, p: u32, label: Time, near: u32) 
 // The first position, in the route of row j, of the stop whose row it is. The tables hold it, so that no search walks
 // along the route.
 pub fn index_in_route(tables: &[u32], j: u32) -> u32
-    requires { ⌜ Accepted (now tables) ⌝ }
+    requires { ⌜ Searchable (now tables) ⌝ }
     requires { ⌜ j < rowCount calls (now tables) ⌝ }
     ensures { λ p. ⌜ p ≡ callFirst (now (tables .entry)) j ⌝ }
     ensures { λ p. ⌜ ((s : ℕ) → OfStop calls (now (tables .entry)) s j
@@ -199,7 +198,7 @@ pub fn index_in_route(tables: &[u32], j: u32) -> u32
 
 // The span of transfer j: the stated one, or the walking span of its metres.
 pub fn transfer_duration(tables: &[u32], j: u32) -> Duration
-    requires { ⌜ Accepted (now tables) ⌝ }
+    requires { ⌜ Searchable (now tables) ⌝ }
     requires { ⌜ j < rowCount transfers (now tables) ⌝ }
     ensures { λ d. ⌜ d .0 ≡ (transferRow (now (tables .entry)) j) .span ⌝ }
 {
@@ -213,7 +212,7 @@ pub fn transfer_duration(tables: &[u32], j: u32) -> Duration
 
 // The span of walk j.
 pub fn walk_duration(tables: &[u32], j: u32) -> Duration
-    requires { ⌜ Accepted (now tables) ⌝ }
+    requires { ⌜ Searchable (now tables) ⌝ }
     requires { ⌜ j < rowCount walks (now tables) ⌝ }
     ensures { λ d. ⌜ d .0 ≡ (walkRow (now (tables .entry)) j) .span ⌝ }
 {

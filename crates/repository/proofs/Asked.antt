@@ -33,9 +33,6 @@ accepted-searchable h = record {
   measured = h .measured;
 }
 
-pub accepted-readable : {w : List ℕ} → Accepted w → Readable w
-accepted-readable h = searchable-readable (accepted-searchable h)
-
 -- "no number 3": a law, and not a field that crates above project
 pub searchable-timed : {w : List ℕ} → Searchable w → Timed (netOf w)
 searchable-timed h = h .timed
