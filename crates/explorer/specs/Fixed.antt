@@ -2,13 +2,13 @@
 use Prim.Native.Nat.{ℕ, _<_}
 use mathlib.Core.Path.{_≡_}
 use mathlib.Core.List.{List}
-use Rattle.repository.specs.Accepted.{Accepted}
+use Rattle.repository.specs.Readable.{Searchable}
 use Rattle.repository.specs.NetOf.{netOf}
 use Rattle.explorer.specs.declared.Round.{Round}
 
--- accepted tables, with n stops and m routes
+-- searchable tables, with n stops and m routes
 pub record Fixed (tables : List ℕ) (n m : ℕ) : Type 0 where
-  pub accepted : Accepted tables
+  pub searchable : Searchable tables
   pub stops : n ≡ netOf tables .stops
   pub routes : m ≡ netOf tables .routes
 

@@ -13,7 +13,7 @@ use Rattle.model.specs.Lists.{upto, setIn}
 use Rattle.model.specs.Choosing.{Chosen, firstPosition, choose1, chooseAt, choose}
 use Rattle.model.specs.Work.{Work}
 use Rattle.repository.specs.Sections.{callRoute}
-use Rattle.repository.specs.Accepted.{Accepted}
+use Rattle.repository.specs.Readable.{Searchable}
 use Rattle.repository.specs.NetOf.{netOf}
 use Rattle.repository.specs.Rows.{calls, firstRow, pastRow, OfStop, rest}
 use Rattle.repository.proofs.Lists.{calls-are}
@@ -49,7 +49,7 @@ route-start d w s x e f = record {
       ∙ sym (routes-turn d (netOf w) s (netOf w .routesOf s) x);
 }
 
-module _ {w : List ℕ} {n s j b : ℕ} (h : Accepted w) (en : n ≡ netOf w .stops) (i : s < n)
+module _ {w : List ℕ} {n s j b : ℕ} (h : Searchable w) (en : n ≡ netOf w .stops) (i : s < n)
     (from : firstRow calls w s ≤ j) (l : j < b) (eb : b ≡ pastRow calls w s) where
   here : OfStop calls w s j
   here = of-stop calls (omega arith) refl from eb l

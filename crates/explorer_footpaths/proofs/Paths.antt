@@ -27,17 +27,17 @@ row-here l h from g eb = of-stop l (omega (arith, h .stop, h .round .fixed .stop
 
 module _ {w : List ℕ} {o : Round} {s x j u : ℕ} (h : Leaving w o s x) where
   pub transfer-in : OfStop transfers w s j → u ≡ (transferRow w j) .to → u < o .stops
-  transfer-in y e = omega (arith, transfer-known (h .round .fixed .accepted) y e, h .round .fixed .stops)
+  transfer-in y e = omega (arith, transfer-known (h .round .fixed .searchable) y e, h .round .fixed .stops)
 
   pub transfer-most : OfStop transfers w s j → u ≡ (transferRow w j) .span → u ≤ 86_400
-  transfer-most y e = transfer-short (h .round .fixed .accepted) (row-known transfers (h .round .fixed .accepted .laid) y) e
+  transfer-most y e = transfer-short (h .round .fixed .searchable) (row-known transfers (h .round .fixed .searchable .laid) y) e
 
   pub walk-in : OfStop walks w s j → u ≡ (walkRow w j) .to → u < o .stops
   walk-in y e =
-      omega (arith, walk-known (h .round .fixed .accepted) (row-known walks (h .round .fixed .accepted .laid) y) e, h .round .fixed .stops)
+      omega (arith, walk-known (h .round .fixed .searchable) (row-known walks (h .round .fixed .searchable .laid) y) e, h .round .fixed .stops)
 
   pub walk-most : OfStop walks w s j → u ≡ (walkRow w j) .span → u ≤ 86_400
-  walk-most y e = walk-short (h .round .fixed .accepted) (row-known walks (h .round .fixed .accepted .laid) y) e
+  walk-most y e = walk-short (h .round .fixed .searchable) (row-known walks (h .round .fixed .searchable .laid) y) e
 
 -- a footpath by what was read of its row
 pub row-path : (d : Direction) (n k target : ℕ) (c : LegType) (s x : ℕ) (r : Foot) (v : Work) {to span : ℕ} {u : Work}
