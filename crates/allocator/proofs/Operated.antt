@@ -29,6 +29,11 @@ use Rattle.allocator.proofs.DoesWords.{does-curr, does-best, does-activ
 use Rattle.allocator.proofs.DoesMarks.{does-mark, does-mask, does-unmark, does-unmask, does-hold-marks}
 use Rattle.allocator.proofs.DoesParent.{does-parent}
 
+-- the direction as the caller names it
+pub activates : {s r : ℕ} (i p : ℕ) (d e : Direction) {w m v n : List ℕ} → d ≡ e → Does s r (activated e i p) w m v n
+    → Does s r (activated d i p) w m v n
+activates i p d e f h = rw f h
+
 -- as a contract says it
 pub does : {s r : ℕ} (f : Work → Work) {w m v n : List ℕ} → Became s r f w m v n → Usable s r w m → Does s r f w m v n
 does f b u = record {

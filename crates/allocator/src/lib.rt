@@ -424,9 +424,9 @@ pub fn begin_choosing(
     clear_mask(words, marks, n, m);
 }
 
-// A marked stop stands at position p of route r: the route's mark moves there, and the route is
-// scanned in this round, where p is sooner.
-pub fn activate(words: &mut [u32], marks: &mut [u64], n: u32, m: u32, d: Direction, r: u32, p: u32)
+// A route's mark moves to position p, and the route is scanned in this round, where p is sooner. The caller names the direction, so that
+// the compiler makes code for each of the two.
+fn activate_by(words: &mut [u32], marks: &mut [u64], n: u32, m: u32, d: Direction, r: u32, p: u32)
     requires { ⌜ Usable n m (now words) (now marks) ⌝ }
     requires { ⌜ r < m ⌝ }
     ensures { λ _. ⌜ Does n m (activated d r p)
@@ -438,6 +438,20 @@ pub fn activate(words: &mut [u32], marks: &mut [u64], n: u32, m: u32, d: Directi
         let q = 2 * pages_of(n);
         words[i] = p;
         marks::set_mark(marks, 64 * q + r as usize);
+    }
+}
+
+// A marked stop stands at position p of route r: the route's mark moves there, and the route is
+// scanned in this round, where p is sooner.
+pub fn activate(words: &mut [u32], marks: &mut [u64], n: u32, m: u32, d: Direction, r: u32, p: u32)
+    requires { ⌜ Usable n m (now words) (now marks) ⌝ }
+    requires { ⌜ r < m ⌝ }
+    ensures { λ _. ⌜ Does n m (activated d r p)
+        (now (words .entry)) (now (marks .entry)) (now (words .exit)) (now (marks .exit)) ⌝ }
+{
+    match d {
+        Direction::Departure => activate_by(words, marks, n, m, Direction::Departure, r, p),
+        Direction::Arrival => activate_by(words, marks, n, m, Direction::Arrival, r, p),
     }
 }
 
