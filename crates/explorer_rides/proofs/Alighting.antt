@@ -1,10 +1,12 @@
 -- Alighting as the code does it, in both directions: what it read and tested, turned into a case of `alightWork`.
 use Prim.Native.Nat.{ℕ, _*_}
-use mathlib.Core.Path.{_≡_, refl, sym, _∙_}
-use mathlib.Core.Bool.{Bool, true, false, cond, _&&_}
+use mathlib.Core.Path.{_≡_, refl, sym, ap, _∙_}
+use mathlib.Core.Bool.{Bool, true, false, cond, _&&_, true≢false}
 use mathlib.Core.List.{List}
+use lib.Dec.{eqb}
 use lib.ListN.{getD}
-use Rattle.base.proofs.Choice.{and-left}
+use borrow.Author.Tests.{eq-eqb, ne-eqb, eqb-true, eqb-false}
+use Rattle.base.proofs.Choice.{split, and-left}
 use Rattle.model.specs.declared.Direction.{Direction}
 use Rattle.model.specs.declared.Leg.{Leg}
 use Rattle.model.specs.Moments.{MAX, better, ahead}
@@ -19,16 +21,21 @@ use Rattle.explorer.specs.declared.Round.{Round}
 use Rattle.explorer.specs.Fused.{offered, alightWork}
 use Rattle.explorer_rides.specs.declared.Call.{Call}
 use Rattle.explorer_rides.specs.declared.Ride.{Ride}
-use Rattle.explorer_rides.specs.Riding.{aboard, Seated, rideLeg, OnRoute, Riding, reachIn}
+use Rattle.explorer_rides.specs.Riding.{aboard, Seat, Seated, rideLeg, OnRoute, Riding, reachIn}
+use Rattle.explorer_rides.specs.declared.position.Seen.{Seen}
+use Rattle.explorer_rides.specs.Looking.{proposesAt, lookAt}
 use Rattle.explorer_rides.proofs.Seats.{seat-on, aboard-on, aboard-off}
 use Rattle.explorer_rides.proofs.Times.{reach-is}
 
 -- ---- the tests
-module _ (d : Direction) (target b : ℕ) {t u : ℕ} (g : t ≡ u) {c : Bool} (e : c ≡ ahead d t target) where
-  pub both-tested : {best : ℕ} {o : Bool} → c ≡ true → best ≡ b → o ≡ better d t best → o ≡ ahead d u target && better d u b
+module _ (d : Direction) (w : List ℕ) (target b : ℕ) (here : Call) (a : Ride) {t : ℕ} (g : t ≡ reachIn d w (a .row) (here .position))
+    {c : Bool} (e : c ≡ ahead d t target) where
+  pub both-tested : {best : ℕ} {o : Bool} → c ≡ true → best ≡ b → o ≡ better d t best → o ≡ proposesAt d w target b here a
+  unfolding proposesAt
   both-tested f i h = h ∙ rw (← g, sym e ∙ f, i)
 
-  pub one-failed : c ≡ false → false ≡ ahead d u target && better d u b
+  pub one-failed : c ≡ false → false ≡ proposesAt d w target b here a
+  unfolding proposesAt
   one-failed f = rw (← g, sym e ∙ f)
 
 -- ---- a proposal
@@ -51,7 +58,7 @@ module _ (d : Direction) (row target s m : ℕ) (g : Leg) (x : Work) where
       go false f = refl
 
 -- ---- nobody is aboard
-pub alight-off : (w : List ℕ) (o : Round) (here : Call) {ws ms : List ℕ} (a : Ride) → a .trip ≡ MAX
+alight-off : (w : List ℕ) (o : Round) (here : Call) {ws ms : List ℕ} (a : Ride) → a .place ≡ MAX
     → Usable (o .stops) (o .routes) ws ms
     → Does (o .stops) (o .routes) (alightWork (o .direction) (netOf w) (o .number) (o .target .0) (here .route) (here .position) (aboard a)) ws ms ws ms
 unfolding alightWork
@@ -70,43 +77,60 @@ proposed w o here a e f k = rw (f, e) at k
 
 -- ---- a trip is aboard, and comes to the stop of this position
 module _ {w stops : List ℕ} {o : Round} {here : Call} {a : Ride} (h : Riding w o (here .route) stops) (q : OnRoute w here)
-    (z : Seated w (here .route) a) (e : a .trip ≡ MAX → ⊥) where
-  alight-on : (x : Work) → alightWork (o .direction) (netOf w) (o .number) (o .target .0) (here .route) (here .position) (aboard a) x
+    (z : Seated w (here .route) a) where
+  alight-on : (a .place ≡ MAX → ⊥) → (x : Work)
+      → alightWork (o .direction) (netOf w) (o .number) (o .target .0) (here .route) (here .position) (aboard a) x
       ≡ offered (o .direction) (o .number * o .stops) (o .target .0) (here .stop) (reachIn (o .direction) w (a .row) (here .position))
       (rideLeg (o .direction) (netOf w) (here .route) a (here .stop) (reachIn (o .direction) w (a .row) (here .position))) x
   unfolding alightWork rideLeg
-  alight-on x =
+  alight-on e x =
       let is = reach-is w (a .trip) (here .position) ((seat-on z e) .times) (o .direction) refl in
       rw (aboard-on a e, q .stop, h .round .fixed .stops, is)
 
-  -- the target or the stop has seen as good
-  pub alight-not : {ws ms : List ℕ} {c : Bool}
-      → c ≡ ahead (o .direction) (reachIn (o .direction) w (a .row) (here .position)) (o .target .0)
-      && better (o .direction) (reachIn (o .direction) w (a .row) (here .position)) (getD (bestOf (o .stops) (o .routes) ws) (here .stop) 0)
-      → c ≡ false → Usable (o .stops) (o .routes) ws ms
-      → Does (o .stops) (o .routes)
-      (alightWork (o .direction) (netOf w) (o .number) (o .target .0) (here .route) (here .position) (aboard a)) ws ms ws ms
-  unfolding wins view
-  alight-not {ws} {ms} f g u =
-      let x = view (o .stops) (o .routes) ws ms in
-      let t = reachIn (o .direction) w (a .row) (here .position) in
-      let leg = rideLeg (o .direction) (netOf w) (here .route) a (here .stop) t in
-      record {
-        holds = sym (alight-on x ∙ offer-not (o .direction) (o .number * o .stops) (o .target .0) (here .stop) t leg x (sym f ∙ g));
-        usable = u;
-      }
+  module _ (ws : List ℕ) {seen : Seen}
+      (f : seen ≡ lookAt (o .direction) w (o .target .0) (getD (bestOf (o .stops) (o .routes) ws) (here .stop) 0) here a) where
+    looked : seen .proposes
+        ≡ cond (eqb (a .place) MAX) false
+        (ahead (o .direction) (reachIn (o .direction) w (a .row) (here .position)) (o .target .0)
+        && better (o .direction) (reachIn (o .direction) w (a .row) (here .position)) (getD (bestOf (o .stops) (o .routes) ws) (here .stop) 0))
+    unfolding lookAt proposesAt
+    looked = ap (λ (y : Seen). y .proposes) f
 
-  pub alight-take : (other : Bool) {c : Bool} {ws ms ws′ ms′ : List ℕ}
-      → c ≡ ahead (o .direction) (reachIn (o .direction) w (a .row) (here .position)) (o .target .0) && other → c ≡ true
-      → Does (o .stops) (o .routes)
-      (applied (o .direction) (o .number * o .stops) (here .stop) (reachIn (o .direction) w (a .row) (here .position))
-      (rideLeg (o .direction) (netOf w) (here .route) a (here .stop) (reachIn (o .direction) w (a .row) (here .position))))
-      ws ms ws′ ms′
-      → Does (o .stops) (o .routes)
-      (alightWork (o .direction) (netOf w) (o .number) (o .target .0) (here .route) (here .position) (aboard a)) ws ms ws′ ms′
-  alight-take other {ws = ws} {ms} f i k =
-      let x = view (o .stops) (o .routes) ws ms in
-      let t = reachIn (o .direction) w (a .row) (here .position) in
-      let leg = rideLeg (o .direction) (netOf w) (here .route) a (here .stop) t in
-      let taken = offer-ahead (o .direction) (o .number * o .stops) (o .target .0) (here .stop) t leg x (and-left _ other (sym f ∙ i)) in
-      record { holds = k .holds ∙ sym (alight-on x ∙ taken); usable = k .usable }
+    -- the target or the stop has seen as good, or nobody is aboard
+    pub alight-not : {ms : List ℕ} → seen .proposes ≡ false → Usable (o .stops) (o .routes) ws ms
+        → Does (o .stops) (o .routes)
+        (alightWork (o .direction) (netOf w) (o .number) (o .target .0) (here .route) (here .position) (aboard a)) ws ms ws ms
+    unfolding wins view
+    alight-not {ms} g u =
+        let x = view (o .stops) (o .routes) ws ms in
+        let t = reachIn (o .direction) w (a .row) (here .position) in
+        let leg = rideLeg (o .direction) (netOf w) (here .route) a (here .stop) t in
+        split (eqb (a .place) MAX) (λ e. alight-off w o here a (eqb-true (a .place) MAX e) u)
+        (λ e. record {
+          holds =
+              sym (alight-on (eqb-false (a .place) MAX e) x
+              ∙ offer-not (o .direction) (o .number * o .stops) (o .target .0) (here .stop) t leg x (rw e at (sym looked ∙ g)));
+          usable = u;
+        })
+
+    module _ (g : seen .proposes ≡ true) where
+      seen-real : a .place ≡ MAX → ⊥
+      seen-real e = true≢false (sym g ∙ looked ∙ rw (eq-eqb (a .place) MAX e))
+
+      pub seen-seat : Seat w (here .route) a
+      seen-seat = seat-on z seen-real
+
+      pub alight-take : {ms ws′ ms′ : List ℕ}
+          → Does (o .stops) (o .routes)
+          (applied (o .direction) (o .number * o .stops) (here .stop) (reachIn (o .direction) w (a .row) (here .position))
+          (rideLeg (o .direction) (netOf w) (here .route) a (here .stop) (reachIn (o .direction) w (a .row) (here .position))))
+          ws ms ws′ ms′
+          → Does (o .stops) (o .routes)
+          (alightWork (o .direction) (netOf w) (o .number) (o .target .0) (here .route) (here .position) (aboard a)) ws ms ws′ ms′
+      alight-take {ms} k =
+          let x = view (o .stops) (o .routes) ws ms in
+          let t = reachIn (o .direction) w (a .row) (here .position) in
+          let leg = rideLeg (o .direction) (netOf w) (here .route) a (here .stop) t in
+          let fits = rw (ne-eqb (a .place) MAX seen-real) at (sym looked ∙ g) in
+          let taken = offer-ahead (o .direction) (o .number * o .stops) (o .target .0) (here .stop) t leg x (and-left _ _ fits) in
+          record { holds = k .holds ∙ sym (alight-on seen-real x ∙ taken); usable = k .usable }

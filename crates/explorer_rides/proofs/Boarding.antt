@@ -1,52 +1,32 @@
 -- Boarding as the code does it, in both directions: what it read and tested, turned into a case of the model's `board`.
 use Prim.Native.Nat.{ℕ, zero, suc, _-_, _<_}
-use mathlib.Core.Path.{_≡_, refl, sym, _∙_}
-use mathlib.Core.Bool.{Bool, true, false}
+use mathlib.Core.Path.{_≡_, refl, sym, ap, _∙_}
+use mathlib.Core.Bool.{Bool, true, false, not, cond, true≢false}
 use mathlib.Core.List.{List}
 use native.Mathlib.Omega.{arith}
-use lib.Dec.{leb}
+use lib.Dec.{leb, eqb}
 use lib.ListN.{getD}
-use borrow.Author.Tests.{le-leb}
+use borrow.Author.Tests.{le-leb, eq-eqb, ne-eqb, eqb-true, eqb-false}
+use Rattle.base.proofs.Choice.{split}
 use Rattle.model.specs.declared.Aboard.{Aboard}
 use Rattle.model.specs.declared.Aboard.the-variants.{On, Off}
 use Rattle.model.specs.declared.Direction.{Direction}
 use Rattle.model.specs.declared.Direction.the-variants.{Departure, Arrival}
 use Rattle.model.specs.Moments.{MAX, orMax, reading}
 use Rattle.model.specs.Rides.{leave, catch, allows, boarded, board}
+use Rattle.model.specs.Tables.{Net}
 use Rattle.repository.specs.NetOf.{netOf}
 use Rattle.discovery.specs.Trips.{tripPlace}
 use Rattle.allocator.specs.Layout.{prevOf, view}
 use Rattle.explorer.specs.declared.Round.{Round}
 use Rattle.explorer_rides.specs.declared.Call.{Call}
 use Rattle.explorer_rides.specs.declared.Ride.{Ride}
-use Rattle.explorer_rides.specs.Riding.{aboard, Seated, caught, OnRoute, boardAt, ridesOn, leaveIn, meets}
-use Rattle.explorer_rides.proofs.Seats.{seat-on, aboard-on, aboard-off}
+use Rattle.explorer_rides.specs.Riding.{aboard, Seat, caught, OnRoute, boardAt, leaveIn}
+use Rattle.explorer_rides.specs.declared.position.Seen.{Seen}
+use Rattle.explorer_rides.specs.Looking.{meets, proposesAt, catchesAt, lookAt, ridesOn}
+use Rattle.explorer_rides.proofs.Seats.{seat-real, aboard-on, aboard-off}
+use Rattle.explorer_rides.proofs.Catching.{board-absent}
 use Rattle.explorer_rides.proofs.Times.{leave-is}
-
--- ---- whether the label allows another trip
-pub meets-departure : {d : Direction} (t x : ℕ) → d ≡ Departure → leb x t ≡ meets d t x
-meets-departure t x e = rw e
-
-pub meets-arrival : {d : Direction} (t x : ℕ) → d ≡ Arrival → leb t x ≡ meets d t x
-meets-arrival t x e = rw e
-
-module _ (d : Direction) (w : List ℕ) (x p : ℕ) (a : Ride) where
-  pub allows-on : {r t : ℕ} {c : Bool} → Seated w r a → (a .trip ≡ MAX → ⊥) → t ≡ leaveIn d w (a .row) p → c ≡ meets d t x
-      → c ≡ allows d (netOf w) x p (aboard a)
-  allows-on z e et ec = ec ∙ rw (aboard-on a e) (go d (leave-is w (a .trip) p ((seat-on z e) .times) d et))
-    where
-      go : (d : Direction) {t : ℕ} → t ≡ leave d (netOf w) (a .trip) p
-          → meets d t x ≡ allows d (netOf w) x p (On (a .trip) (a .since))
-      go Departure e = unfold allows leave in rw e
-      go Arrival e = unfold allows leave in rw e
-
-  pub allows-off : x < 4_294_967_296 → a .trip ≡ MAX → true ≡ allows d (netOf w) x p (aboard a)
-  unfolding allows
-  allows-off l e = rw (aboard-off a e) (go d)
-    where
-      go : (d : Direction) → true ≡ allows d (netOf w) x p Off
-      go Departure = sym (le-leb x MAX (omega arith))
-      go Arrival = refl
 
 -- ---- a label
 reading-is : (d : Direction) (x : ℕ) → (x ≡ 0 → ⊥) → reading d x ≡ x
@@ -55,45 +35,116 @@ reading-is Departure zero h = absurd (h refl)
 reading-is Departure (suc x) h = refl
 reading-is Arrival x h = refl
 
-module _ (d : Direction) (w : List ℕ) (r p x : ℕ) (a : Aboard) {c : Bool} (real : x ≡ 0 → ⊥)
-    (e : c ≡ allows d (netOf w) x p a) where
-  pub board-stay : c ≡ false → a ≡ boardAt d (netOf w) r p x a
-  unfolding boardAt
-  board-stay f = rw (reading-is d x real, ← e, f)
+positive : (x : ℕ) → (x ≡ 0 → ⊥) → 0 < x
+positive zero h = absurd (h refl)
+positive (suc x) h = omega arith
 
-  pub board-on : {u : Aboard} → c ≡ true → u ≡ boarded p a (catch d (netOf w) r p x) → u ≡ boardAt d (netOf w) r p x a
+module _ (d : Direction) (n : Net) (r p x : ℕ) (a : Aboard) (real : x ≡ 0 → ⊥) where
+  stays : allows d n x p a ≡ false → a ≡ boardAt d n r p x a
   unfolding boardAt
-  board-on f g = g ∙ rw (reading-is d x real, ← e, f)
+  stays e = rw (reading-is d x real, e)
 
--- ---- the ride itself, with its row and place
-pub rides-on-absent : (d : Direction) (w : List ℕ) (here : Call) (a : Ride) {x : ℕ} → x ≡ 0 → a ≡ ridesOn d w here x a
-unfolding ridesOn
-rides-on-absent d w here a e = rw e refl
+  goes : allows d n x p a ≡ true → boarded p a (catch d n r p x) ≡ boardAt d n r p x a
+  unfolding boardAt
+  goes e = rw (reading-is d x real, e)
+
+-- ---- whether the label catches a trip
+pub meets-departure : {d : Direction} (t x : ℕ) → d ≡ Departure → leb x t ≡ meets d t x
+meets-departure t x e = rw e
+
+pub meets-arrival : {d : Direction} (t x : ℕ) → d ≡ Arrival → leb t x ≡ meets d t x
+meets-arrival t x e = rw e
 
 module _ (d : Direction) (w : List ℕ) (here : Call) (a : Ride) where
-  pub rides-on-stay : {x : ℕ} {c : Bool} → (x ≡ 0 → ⊥) → c ≡ allows d (netOf w) x (here .position) (aboard a) → c ≡ false
-      → a ≡ ridesOn d w here x a
-  unfolding ridesOn
-  rides-on-stay {x = zero} real e f = absurd (real refl)
-  rides-on-stay {x = suc k} real e f = rw (← e, f) refl
+  pub catches-absent : here .label .0 ≡ 0 → false ≡ catchesAt d w here a
+  unfolding catchesAt
+  catches-absent e = rw (eq-eqb (here .label .0) 0 e)
 
-  pub rides-on-caught : {x : ℕ} {c : Bool} {u : Ride} → (x ≡ 0 → ⊥) → c ≡ allows d (netOf w) x (here .position) (aboard a) → c ≡ true
-      → u ≡ caught w (here .route) (here .position) a (tripPlace d (netOf w) (here .route) (here .position) x)
-      → u ≡ ridesOn d w here x a
-  unfolding ridesOn
-  rides-on-caught {x = zero} real e f g = absurd (real refl)
-  rides-on-caught {x = suc k} real e f g = g ∙ rw (← e, f) refl
+  catches-real : (here .label .0 ≡ 0 → ⊥) → catchesAt d w here a ≡ allows d (netOf w) (here .label .0) (here .position) (aboard a)
+  unfolding catchesAt
+  catches-real e = rw (ne-eqb (here .label .0) 0 e)
+
+  pub catches-on : {t : ℕ} {c : Bool} → OnRoute w here → Seat w (here .route) a → (here .label .0 ≡ 0 → ⊥)
+      → t ≡ leaveIn d w (a .row) (here .position) → c ≡ meets d t (here .label .0) → c ≡ catchesAt d w here a
+  catches-on q s real et ec =
+      ec
+      ∙ rw (catches-real real, aboard-on a (seat-real q s))
+      (go d (leave-is w (a .trip) (here .position) (s .times) d et))
+    where
+      go : (d : Direction) {t : ℕ} → t ≡ leave d (netOf w) (a .trip) (here .position)
+          → meets d t (here .label .0) ≡ allows d (netOf w) (here .label .0) (here .position) (On (a .trip) (a .since))
+      go Departure e = unfold allows leave in rw e
+      go Arrival e = unfold allows leave in rw e
+
+  pub catches-off : here .label .0 < 4_294_967_296 → a .place ≡ MAX → not (eqb (here .label .0) 0) ≡ catchesAt d w here a
+  unfolding catchesAt allows
+  catches-off l e = rw (aboard-off a e) (go (eqb (here .label .0) 0) d)
+    where
+      go : (b : Bool) (d : Direction) → not b ≡ cond b false (allows d (netOf w) (here .label .0) (here .position) Off)
+      go true d = refl
+      go false Departure = sym (le-leb (here .label .0) MAX (omega arith))
+      go false Arrival = refl
+
+  module _ {c : Bool} (e : c ≡ catchesAt d w here a) where
+    pub catches-moment : c ≡ true → 0 < here .label .0
+    catches-moment f =
+        split (eqb (here .label .0) 0)
+        (λ z. absurd (true≢false (sym f ∙ e ∙ sym (catches-absent (eqb-true (here .label .0) 0 z)))))
+        (λ z. positive (here .label .0) (eqb-false (here .label .0) 0 z))
+
+    catches-allowed : c ≡ true → allows d (netOf w) (here .label .0) (here .position) (aboard a) ≡ true
+    catches-allowed f = sym (catches-real (λ z. let l = catches-moment f in omega (arith, z, l))) ∙ sym e ∙ f
+
+    -- ---- the ride that goes on
+    pub rides-on-stay : c ≡ false → a ≡ ridesOn d w here a
+    unfolding ridesOn
+    rides-on-stay f = rw (sym e ∙ f)
+
+    pub rides-on-caught : {u : Ride} → c ≡ true
+        → u ≡ caught w (here .route) (here .position) a (tripPlace d (netOf w) (here .route) (here .position) (here .label .0))
+        → u ≡ ridesOn d w here a
+    unfolding ridesOn
+    rides-on-caught f g = g ∙ rw (sym e ∙ f)
+
+    -- ---- that ride is the model's
+    pub board-stay : OnRoute w here → c ≡ false
+        → aboard a ≡ boardAt d (netOf w) (here .route) (here .position) (here .label .0) (aboard a)
+    board-stay q f =
+        split (eqb (here .label .0) 0)
+        (λ z. board-absent d w here (aboard a) q (eqb-true (here .label .0) 0 z))
+        (λ z.
+        let real = eqb-false (here .label .0) 0 z in
+        stays d (netOf w) (here .route) (here .position) (here .label .0) (aboard a) real (sym (catches-real real) ∙ sym e ∙ f))
+
+    pub board-on : {u : Aboard} → c ≡ true → u ≡ boarded (here .position) (aboard a) (catch d (netOf w) (here .route) (here .position) (here .label .0))
+        → u ≡ boardAt d (netOf w) (here .route) (here .position) (here .label .0) (aboard a)
+    board-on f g =
+        g
+        ∙ goes d (netOf w) (here .route) (here .position) (here .label .0) (aboard a)
+        (λ z. let l = catches-moment f in omega (arith, z, l)) (catches-allowed f)
+
+-- ---- both
+module _ (d : Direction) (w : List ℕ) (target best : ℕ) (here : Call) (a : Ride) where
+  pub look-on : {c b : Bool} → OnRoute w here → Seat w (here .route) a → c ≡ proposesAt d w target best here a → b ≡ catchesAt d w here a
+      → (k : Bool) → c ≡ k → record { proposes = k; catches = b } ≡ lookAt d w target best here a
+  unfolding lookAt
+  look-on q s e f k g = rw (ne-eqb (a .place) MAX (seat-real q s), ← e, g, f)
+
+  pub look-off : {b : Bool} → a .place ≡ MAX → b ≡ catchesAt d w here a → record { proposes = false; catches = b } ≡ lookAt d w target best here a
+  unfolding lookAt
+  look-off e f = rw (eq-eqb (a .place) MAX e, f)
+
+  pub look-named : (e : Direction) {s : Seen} → d ≡ e → s ≡ lookAt e w target best here a → s ≡ lookAt d w target best here a
+  look-named e f g = g ∙ rw f
+
+  pub look-catches : {s : Seen} → s ≡ lookAt d w target best here a → s .catches ≡ catchesAt d w here a
+  unfolding lookAt
+  look-catches e = ap (λ (y : Seen). y .catches) e
 
 -- ---- the label that was read
-pub rides-on-is : (w : List ℕ) (o : Round) (here : Call) (ws : List ℕ) (a : Ride) {u : Ride} {x : ℕ}
-    → x ≡ getD (prevOf (o .stops) (o .routes) ws) (here .stop) 0
-    → u ≡ ridesOn (o .direction) w here x a
-    → u ≡ ridesOn (o .direction) w here (getD (prevOf (o .stops) (o .routes) ws) (here .stop) 0) a
-rides-on-is w o here ws a e f = f ∙ rw e refl
-
-pub board-is : (w : List ℕ) (o : Round) (here : Call) (ws ms : List ℕ) (a : Aboard) {e : Aboard} {x : ℕ} → OnRoute w here
-    → x ≡ getD (prevOf (o .stops) (o .routes) ws) (here .stop) 0
-    → e ≡ boardAt (o .direction) (netOf w) (here .route) (here .position) x a
+pub board-is : (w : List ℕ) (o : Round) (here : Call) (ws ms : List ℕ) (a : Aboard) {e : Aboard} → OnRoute w here
+    → here .label .0 ≡ getD (prevOf (o .stops) (o .routes) ws) (here .stop) 0
+    → e ≡ boardAt (o .direction) (netOf w) (here .route) (here .position) (here .label .0) a
     → e ≡ board (o .direction) (netOf w) ((view (o .stops) (o .routes) ws ms) .prev) (here .route) (here .position) a
 unfolding board boardAt view
 board-is w o here ws ms a q ex f = f ∙ rw (ex, q .stop)

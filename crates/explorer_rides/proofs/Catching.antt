@@ -14,11 +14,10 @@ use Rattle.model.specs.Lists.{upto}
 use Rattle.model.specs.Tables.{Net}
 use Rattle.model.specs.Moments.{MAX, orMax, reading}
 use Rattle.model.specs.Rides.{firstTrip, lastTrip, catch, allows, boarded}
-use Rattle.repository.specs.Accepted.{Accepted, Timed}
+use Rattle.repository.specs.Accepted.{Timed}
 use Rattle.repository.specs.NetOf.{netOf}
-use Rattle.repository.specs.Rows.{TripOf, timeRow, tripCount}
-use Rattle.repository.proofs.Asked.{accepted-timed}
-use Rattle.repository.proofs.Trips.{trip-known}
+use Rattle.repository.specs.Rows.{timeRow, tripCount}
+use Rattle.repository.proofs.Trips.{trip-known, place-of-trip}
 use Rattle.discovery.specs.declared.Trip.{Trip}
 use Rattle.discovery.specs.declared.Trip.the-variants.{At, Nothing}
 use Rattle.discovery.specs.Trips.{tripPlace}
@@ -27,7 +26,7 @@ use Rattle.discovery.proofs.Caught.{place-trip, place-in}
 use Rattle.explorer_rides.specs.declared.Call.{Call}
 use Rattle.explorer_rides.specs.declared.Ride.{Ride}
 use Rattle.explorer_rides.specs.Riding.{aboard, Seated, caught, OnRoute, boardAt}
-use Rattle.explorer_rides.proofs.Seats.{aboard-on}
+use Rattle.explorer_rides.proofs.Seats.{aboard-on, place-real}
 
 -- ---- the lookup
 module _ {d : Direction} (w : List ℕ) (r p x : ℕ) {t : Trip} where
@@ -37,35 +36,39 @@ module _ {d : Direction} (w : List ℕ) (r p x : ℕ) {t : Trip} where
   pub place-arrival : d ≡ Arrival → t ≡ tripPlace Arrival (netOf w) r p x → t ≡ tripPlace d (netOf w) r p x
   place-arrival e f = f ∙ rw e
 
--- a trip of the route, at place i of its order
-module _ (w : List ℕ) (r : ℕ) {i v : ℕ} (l : i < netOf w .trips r) (g : v ≡ netOf w .tripAt r i) where
-  listed : TripOf (netOf w) r v
-  listed = record { place = i; within = l; trip = g }
-
-  listed-known : Accepted w → r < netOf w .routes → v < tripCount w
-  listed-known h l = trip-known h l listed
-
 -- ---- the ride that the code makes of what was found
-module _ (d : Direction) (w : List ℕ) (here : Call) (x : ℕ) {t : Trip}
-    (e : t ≡ tripPlace d (netOf w) (here .route) (here .position) x) where
-  module _ {i : ℕ} (f : t ≡ At i) where
-    pub caught-in : i < netOf w .trips (here .route)
-    caught-in = (place-in w (here .route) (here .position) x d) .within i (sym e ∙ f)
+module _ (d : Direction) (w : List ℕ) (here : Call) (a : Ride) {t : Trip}
+    (e : t ≡ tripPlace d (netOf w) (here .route) (here .position) (here .label .0)) where
+  pub caught-in : {i : ℕ} → t ≡ At i → i < netOf w .trips (here .route)
+  caught-in {i} f = (place-in w (here .route) (here .position) (here .label .0) d) .within i (sym e ∙ f)
 
-    module _ {v : ℕ} (g : v ≡ netOf w .tripAt (here .route) i) where
-      pub caught-known : OnRoute w here → v < tripCount w
-      caught-known h = listed-known w (here .route) caught-in g (h .accepted) (h .route)
+  pub caught-at : {i : ℕ} {b : Ride} → t ≡ At i → b ≡ caught w (here .route) (here .position) a (At i)
+      → b ≡ caught w (here .route) (here .position) a (tripPlace d (netOf w) (here .route) (here .position) (here .label .0))
+  caught-at f g = g ∙ rw (← e, f)
 
-      pub caught-is : (a : Ride) {row : ℕ} → row ≡ timeRow w v
-          → record { trip = v; since = here .position; row = row; place = i }
-          ≡ caught w (here .route) (here .position) a (tripPlace d (netOf w) (here .route) (here .position) x)
-      unfolding caught
-      caught-is a k = rw (← e, f, ← g, ← k)
-
-  pub caught-not : (a : Ride) → t ≡ Nothing
-      → a ≡ caught w (here .route) (here .position) a (tripPlace d (netOf w) (here .route) (here .position) x)
+  pub caught-not : t ≡ Nothing
+      → a ≡ caught w (here .route) (here .position) a (tripPlace d (netOf w) (here .route) (here .position) (here .label .0))
   unfolding caught
-  caught-not a f = rw (← e, f)
+  caught-not f = rw (← e, f)
+
+-- a seat on the trip at place i
+module _ (w : List ℕ) (here : Call) (a : Ride) {i : ℕ} (q : OnRoute w here) (l : i < netOf w .trips (here .route)) where
+  -- the trip aboard stands there
+  pub seat-same : Seated w (here .route) a → i ≡ a .place
+      → record { trip = a .trip; since = here .position; row = a .row; place = i } ≡ caught w (here .route) (here .position) a (At i)
+  unfolding caught
+  seat-same z e =
+      let s = z .seat (λ m. place-real (q .searchable) (q .route) l (e ∙ m)) in
+      rw (s .times, s .trip, e)
+
+  module _ {v : ℕ} (g : v ≡ netOf w .tripAt (here .route) i) where
+    pub seat-known : v < tripCount w
+    seat-known = trip-known (q .searchable) (q .route) (place-of-trip l g)
+
+    pub seat-new : {row : ℕ} → row ≡ timeRow w v
+        → record { trip = v; since = here .position; row = row; place = i } ≡ caught w (here .route) (here .position) a (At i)
+    unfolding caught
+    seat-new k = rw (← g, ← k)
 
 -- ---- that ride is the model's, and the route has it
 module _ (w : List ℕ) (here : Call) (a : Ride) (h : OnRoute w here) where
@@ -77,17 +80,17 @@ module _ (w : List ℕ) (here : Call) (a : Ride) (h : OnRoute w here) where
 
   trip-aboard : (o : Option ℕ) (t : Trip) → InRoute (netOf w) r t → tripIn (netOf w) r t ≡ o
       → aboard (caught w r p a t) ≡ boarded p (aboard a) o
-  unfolding caught tripCount tripIn boarded
+  unfolding caught tripIn boarded
   trip-aboard o (At i) z e =
       let v = netOf w .tripAt r i in
-      let real : v ≡ MAX → ⊥ = λ m. omega (arith, listed-known w r (z .within i refl) refl (h .accepted) (h .route), h .accepted .laid .trips-limit) in
-      aboard-on (record { trip = v; since = p; row = timeRow w v; place = i }) real ∙ rw (← e)
+      aboard-on (record { trip = v; since = p; row = timeRow w v; place = i }) (place-real (h .searchable) (h .route) (z .within i refl))
+      ∙ rw (← e)
   trip-aboard o Nothing z e = rw (← e)
 
   trip-seated : (t : Trip) → InRoute (netOf w) r t → Seated w r a → Seated w r (caught w r p a t)
   unfolding caught
   trip-seated (At i) z s = record {
-    seat = λ real. record { trip = listed w r (z .within i refl) refl; since = h .position; times = refl };
+    seat = λ real. record { place = z .within i refl; trip = refl; since = h .position; times = refl };
   }
   trip-seated Nothing z s = s
 
@@ -96,7 +99,7 @@ module _ (w : List ℕ) (here : Call) (a : Ride) (h : OnRoute w here) where
     caught-aboard =
         ap aboard e
         ∙ trip-aboard (catch d (netOf w) r p x) (tripPlace d (netOf w) r p x) (place-in w r p x d)
-        (place-trip w r p x d (h .accepted) (h .route) (h .position))
+        (place-trip w r p x d (h .searchable) (h .route) (h .position))
 
     pub caught-seated : Seated w r a → Seated w r b
     caught-seated s = rw e (trip-seated (tripPlace d (netOf w) r p x) (place-in w r p x d) s)
@@ -136,5 +139,5 @@ pub board-absent : (d : Direction) (w : List ℕ) (here : Call) (a : Aboard) {x 
     → a ≡ boardAt d (netOf w) (here .route) (here .position) x a
 unfolding boardAt
 board-absent d w here a h e =
-    rw (e, catch-absent (accepted-timed (h .accepted)) (here .route) (here .position) (h .route) (h .position) d)
+    rw (e, catch-absent (h .searchable .timed) (here .route) (here .position) (h .route) (h .position) d)
     (stay-none (allows d (netOf w) (reading d 0) (here .position) a) (here .position) a)

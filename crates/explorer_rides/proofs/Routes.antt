@@ -1,7 +1,7 @@
 -- A loop over the chosen routes on its way: the routes that are left lead where all of them lead.
 use Prim.Native.Nat.{ℕ, _+_, _-_, _*_, _≤_, _<_}
 use mathlib.Core.Path.{_≡_, refl, sym, _∙_}
-use mathlib.Core.List.{List}
+use mathlib.Core.List.{List, []}
 use native.Mathlib.Omega.{arith}
 use lib.ListN.{getD}
 use Rattle.base.specs.Tab.{tab}
@@ -9,7 +9,9 @@ use Rattle.marks.specs.Marks.{marked, firstOf}
 use Rattle.marks.specs.declared.Next.{Next}
 use Rattle.marks.specs.declared.Next.the-variants.{At, Nothing}
 use Rattle.model.specs.declared.Aboard.the-variants.{Off}
+use Rattle.model.specs.declared.Direction.{Direction}
 use Rattle.model.specs.declared.Direction.the-variants.{Departure, Arrival}
+use Rattle.model.specs.Lists.{upto}
 use Rattle.model.specs.Rides.{course}
 use Rattle.model.specs.Choosing.{Placed}
 use Rattle.repository.specs.NetOf.{netOf}
@@ -24,8 +26,6 @@ use Rattle.explorer.specs.Fixed.{InRound}
 use Rattle.explorer.specs.Fused.{scanWork, routeWork, routesWork, ridesWork}
 use Rattle.explorer.proofs.Visited.{visited}
 use Rattle.explorer_rides.specs.Riding.{Riding, Rideable}
-use Rattle.explorer_rides.specs.Left.{positionsLeft}
-use Rattle.explorer_rides.proofs.Scanning.{course-up, course-down}
 use Rattle.explorer_rides.proofs.Unchanged.{route-mask, route-active}
 
 -- ---- one route
@@ -37,28 +37,25 @@ pub rideable : {w stops : List ℕ} {o : Round} {r : ℕ} → InRound w o → r 
     → stops ≡ tab (netOf w .stopAt r) (netOf w .positions r) 0 → Rideable w o r stops
 rideable h l e = record { known = λ _. riding h l e }
 
-route-is : (w : List ℕ) (o : Round) (r : ℕ) {ws ms ws′ ms′ : List ℕ} {from : ℕ}
-    → from ≡ getD (activeOf (o .stops) (o .routes) ws) r 0
-    → Does (o .stops) (o .routes)
-    (scanWork (o .direction) (netOf w) (o .number) (o .target .0) r (course (o .direction) (netOf w) r from) Off) ws ms ws′ ms′
-    → Does (o .stops) (o .routes) (routeWork (o .direction) (netOf w) (o .number) (o .target .0) r) ws ms ws′ ms′
-unfolding routeWork view
-route-is w o r e f = record { holds = f .holds ∙ rw e; usable = f .usable }
+module _ (w : List ℕ) (o : Round) (r : ℕ) {ws ms : List ℕ} {from : ℕ} (e : from ≡ getD (activeOf (o .stops) (o .routes) ws) r 0) where
+  pub route-scanned : {ws′ ms′ : List ℕ}
+      → Does (o .stops) (o .routes)
+      (scanWork (o .direction) (netOf w) (o .number) (o .target .0) r (course (o .direction) (netOf w) r from) Off) ws ms ws′ ms′
+      → Does (o .stops) (o .routes) (routeWork (o .direction) (netOf w) (o .number) (o .target .0) r) ws ms ws′ ms′
+  unfolding routeWork view
+  route-scanned f = record { holds = f .holds ∙ rw e; usable = f .usable }
 
-pub route-up : (w : List ℕ) (o : Round) (r : ℕ) {ws ms ws′ ms′ : List ℕ} {from : ℕ} → o .direction ≡ Departure
-    → from ≡ getD (activeOf (o .stops) (o .routes) ws) r 0
-    → Does (o .stops) (o .routes)
-    (scanWork (o .direction) (netOf w) (o .number) (o .target .0) r (positionsLeft (o .direction) (netOf w) r from) Off) ws ms ws′ ms′
-    → Does (o .stops) (o .routes) (routeWork (o .direction) (netOf w) (o .number) (o .target .0) r) ws ms ws′ ms′
-route-up w o r {from = from} d e f = route-is w o r e (rw (course-up (netOf w) r from d) at f)
-
-pub route-down : (w : List ℕ) (o : Round) (r : ℕ) {ws ms ws′ ms′ : List ℕ} {from : ℕ} → o .direction ≡ Arrival
-    → from ≡ getD (activeOf (o .stops) (o .routes) ws) r 0
-    → Does (o .stops) (o .routes)
-    (scanWork (o .direction) (netOf w) (o .number) (o .target .0) r (positionsLeft (o .direction) (netOf w) r (from + 1)) Off)
-    ws ms ws′ ms′
-    → Does (o .stops) (o .routes) (routeWork (o .direction) (netOf w) (o .number) (o .target .0) r) ws ms ws′ ms′
-route-down w o r {from = from} d e f = route-is w o r e (rw (course-down (netOf w) r from d) at f)
+  -- no position is left at the mark
+  pub route-passed : {end : ℕ} → end ≡ netOf w .positions r → end ≤ from
+      → (o .direction ≡ Arrival → getD (activeOf (o .stops) (o .routes) ws) r 0 < netOf w .positions r)
+      → Usable (o .stops) (o .routes) ws ms
+      → Does (o .stops) (o .routes) (routeWork (o .direction) (netOf w) (o .number) (o .target .0) r) ws ms ws ms
+  unfolding scanWork course upto
+  route-passed ee l z u = route-scanned (record { holds = rw (empty (o .direction) refl); usable = u })
+    where
+      empty : (d : Direction) → d ≡ o .direction → course d (netOf w) r from ≡ []
+      empty Departure f = let none : netOf w .positions r - from ≡ 0 = omega (arith, ee, l) in rw none
+      empty Arrival f = absurd (omega (arith, e, ee, l, z (sym f)))
 
 -- ---- the loop
 -- the answer x of a look from place i on
@@ -80,7 +77,7 @@ module _ (o : Round) (ms : List ℕ) (i : ℕ) {r : ℕ} {x : Next}
     (e : x ≡ firstOf (after i (maskOf (o .stops) (o .routes) ms))) (f : x ≡ At r) {w : List ℕ} (h : InRound w o) where
   pub next-fits : r < 4_294_967_296
   unfolding netOf
-  next-fits = omega (arith, next-below (o .stops) (o .routes) ms i e f, h .fixed .routes, h .fixed .accepted .laid .routes-limit)
+  next-fits = omega (arith, next-below (o .stops) (o .routes) ms i e f, h .fixed .routes, h .fixed .searchable .laid .routes-limit)
 
   pub next-room : r + 1 < 18_446_744_073_709_551_616
   next-room = omega (arith, next-fits)

@@ -1,10 +1,15 @@
 -- A scan on its way along a route: the positions that are left lead, from the state of now, where all of them lead.
-use Prim.Native.Nat.{ℕ, zero, suc, _+_, _-_, _≤_, _<_}
-use mathlib.Core.Path.{_≡_, refl, sym, ap, _∙_, subst}
+use Prim.Native.Nat.{ℕ, zero, suc, _+_, _-_, _*_, _≤_, _<_}
+use mathlib.Core.Path.{_≡_, refl, sym, ap, _∙_}
+use mathlib.Core.Bool.{cond}
 use mathlib.Core.List.{List, [], _∷_}
 use native.Mathlib.Omega.{arith}
 use native.Mathlib.Numerals.{add-one}
+use lib.Dec.{eqb}
 use lib.ListN.{length, getD}
+use borrow.Author.Tests.{eq-eqb, ne-eqb, eqb-true, eqb-false}
+use Rattle.base.proofs.Choice.{split}
+use Rattle.shared.specs.declared.Time.{Time}
 use Rattle.model.specs.declared.Aboard.the-variants.{Off}
 use Rattle.model.specs.declared.Direction.{Direction}
 use Rattle.model.specs.declared.Direction.the-variants.{Departure, Arrival}
@@ -17,125 +22,74 @@ use Rattle.repository.specs.Laid.{Laid}
 use Rattle.allocator.specs.Layout.{view}
 use Rattle.allocator.specs.Does.{Usable, Does}
 use Rattle.explorer.specs.declared.Round.{Round}
-use Rattle.explorer.specs.Fixed.{InRound}
 use Rattle.explorer.specs.Fused.{alightWork, scanWork}
 use Rattle.explorer_rides.specs.declared.Ride.{Ride}
 use Rattle.explorer_rides.specs.Riding.{aboard, Seated, Riding, Rideable, OnRoute}
-use Rattle.explorer_rides.specs.Left.{positionsBelow, positionsLeft, backOf, Within}
-use Rattle.explorer_rides.proofs.Seats.{aboard-off, stop-room, call-at}
+use Rattle.explorer_rides.specs.Course.{pastOf, nextOf}
+use Rattle.explorer_rides.proofs.Seats.{aboard-off, stop-room, call-at, call-in}
 
-down-below : (p : ℕ) → downto p ≡ p ∷ positionsBelow p
-unfolding positionsBelow downto
-down-below zero = refl
-down-below (suc p) = refl
+-- ---- where the code ends and goes on
+module _ {d : Direction} (end : ℕ) where
+  pub past-departure : d ≡ Departure → end ≡ pastOf d end
+  unfolding pastOf
+  past-departure e = rw e
 
-below-down : (p : ℕ) → 0 < p → positionsBelow p ≡ (p - 1) ∷ positionsBelow (p - 1)
-unfolding positionsBelow
-below-down zero l = absurd (omega arith)
-below-down (suc p) l = let less : suc p - 1 ≡ p = omega arith in rw less (down-below p)
+  pub past-arrival : d ≡ Arrival → MAX ≡ pastOf d end
+  unfolding pastOf
+  past-arrival e = rw e
 
-below-none : (p : ℕ) → p ≤ 0 → positionsBelow p ≡ []
-unfolding positionsBelow
-below-none p l = let none : p ≡ 0 = omega arith in rw none
+module _ {d : Direction} (p : ℕ) where
+  pub next-departure : d ≡ Departure → p + 1 ≡ nextOf d p
+  unfolding nextOf
+  next-departure e = rw e
 
--- ---- where a scan begins
-departure-not-arrival : Departure ≡ Arrival → ⊥
-departure-not-arrival e = subst code e tt
-  where
-    code : Direction → Type 0
-    code Departure = Unit {0}
-    code Arrival = ⊥
+  pub next-first : d ≡ Arrival → p ≡ 0 → MAX ≡ nextOf d p
+  unfolding nextOf
+  next-first e f = rw (e, f)
 
-module _ {d : Direction} (n : Net) (r from : ℕ) where
-  pub course-up : d ≡ Departure → positionsLeft d n r from ≡ course d n r from
+  pub next-arrival : d ≡ Arrival → (p ≡ 0 → ⊥) → p - 1 ≡ nextOf d p
+  unfolding nextOf
+  next-arrival e real = rw e (below p real)
+    where
+      below : (p : ℕ) → (p ≡ 0 → ⊥) → p - 1 ≡ nextOf Arrival p
+      below zero real = absurd (real refl)
+      below (suc p) real = omega arith
+
+-- ---- the positions that are left at p
+unfoldable pub positionsLeft : Direction → Net → ℕ → ℕ → List ℕ
+positionsLeft Departure n r p = upto (n .positions r - p) p
+positionsLeft Arrival n r p = cond (eqb p MAX) [] (downto p)
+
+-- there is one, or the scan is past its last
+pub record Within (d : Direction) (n : Net) (r p : ℕ) : Type 0 where
+  pub within : (p ≡ pastOf d (n .positions r) → ⊥) → p < n .positions r
+
+past-all : (d : Direction) (n : Net) (r p : ℕ) → p ≡ pastOf d (n .positions r) → positionsLeft d n r p ≡ []
+unfolding positionsLeft pastOf upto
+past-all Departure n r p e = let none : n .positions r - p ≡ 0 = omega (arith, e) in rw none
+past-all Arrival n r p e = rw (eq-eqb p MAX e)
+
+module _ (n : Net) (r : ℕ) (few : n .positions r < MAX) where
+  from-mark : (d : Direction) (p : ℕ) → p < n .positions r → positionsLeft d n r p ≡ course d n r p
   unfolding positionsLeft course
-  course-up e = rw e
+  from-mark Departure p l = refl
+  from-mark Arrival p l = rw (ne-eqb p MAX (λ e. omega (arith, e)))
 
-  -- the arrival scan counts from one above the mark
-  pub course-down : d ≡ Arrival → positionsLeft d n r (from + 1) ≡ course d n r from
-  unfolding positionsLeft course positionsBelow
-  course-down e = rw (e, add-one)
+  first-left : (d : Direction) (p : ℕ) → p < n .positions r → positionsLeft d n r p ≡ p ∷ positionsLeft d n r (nextOf d p)
+  unfolding positionsLeft nextOf upto downto
+  first-left Departure p l = let more : n .positions r - p ≡ suc (n .positions r - (p + 1)) = omega (arith, l) in rw (more, add-one)
+  first-left Arrival zero l = refl
+  first-left Arrival (suc p) l = rw (ne-eqb (suc p) MAX (λ e. omega (arith, e)), ne-eqb p MAX (λ e. omega (arith, e)))
 
-  pub within-up : d ≡ Departure → Within d n r from
-  within-up e = record { within = λ f. absurd (departure-not-arrival (sym e ∙ f)) }
-
-  pub within-down : {x : ℕ} → from ≡ x → x < n .positions r → Within d n r (from + 1)
-  within-down e l = record { within = λ f. omega arith }
-
--- ---- the positions that are left, as the code counts them
-module _ {d : Direction} where
-  pub back-departure : d ≡ Departure → 0 ≡ backOf d
-  unfolding backOf
-  back-departure e = rw e
-
-  pub back-arrival : d ≡ Arrival → 1 ≡ backOf d
-  unfolding backOf
-  back-arrival e = rw e
-
-back-most : (d : Direction) → backOf d ≤ 1
-unfolding backOf
-back-most Departure = omega arith
-back-most Arrival = omega arith
-
-left-is : (d : Direction) (n : Net) (r p : ℕ) → backOf d ≤ p → p < n .positions r + backOf d
-    → positionsLeft d n r p ≡ (p - backOf d) ∷ positionsLeft d n r (p - backOf d + 1 - backOf d)
-unfolding positionsLeft upto backOf
-left-is Departure n r p g l =
-    let more : n .positions r - p ≡ suc (n .positions r - (p + 1)) = omega (arith, l) in
-    let here : p - 0 ≡ p = omega arith in
-    let next : p - 0 + 1 - 0 ≡ p + 1 = omega arith in
-    rw (next, here, more, add-one)
-left-is Arrival n r p g l =
-    let next : p - 1 + 1 - 1 ≡ p - 1 = omega (arith, g) in
-    rw next (below-down p g)
-
-left-past : (d : Direction) (n : Net) (r p : ℕ) → n .positions r + backOf d ≤ p → Within d n r p → positionsLeft d n r p ≡ []
-unfolding positionsLeft upto backOf
-left-past Departure n r p l h =
-    let past : n .positions r - p ≡ 0 = omega (arith, l) in
-    rw past
-left-past Arrival n r p l h = absurd (omega (arith, l, h .within refl))
-
-left-below : (d : Direction) (n : Net) (r p : ℕ) → p < backOf d → positionsLeft d n r p ≡ []
-unfolding positionsLeft backOf
-left-below Departure n r p l = absurd (omega (arith, l))
-left-below Arrival n r p l = below-none p (omega (arith, l))
-
-within-is : (d : Direction) (n : Net) (r p : ℕ) → backOf d ≤ p → Within d n r p → Within d n r (p - backOf d + 1 - backOf d)
-unfolding backOf
-within-is Departure n r p g h = within-up n r _ refl
-within-is Arrival n r p g h = record { within = λ f. omega (arith, g, h .within f) }
-
-module _ (d : Direction) (n : Net) (r p : ℕ) {b end past : ℕ} (e : b ≡ backOf d) (f : end ≡ n .positions r) (k : past ≡ end + b) where
-  bound : past ≡ n .positions r + backOf d
-  bound = omega (arith, e, f, k)
-
-  pub left-end : past ≤ p → Within d n r p → positionsLeft d n r p ≡ []
-  left-end l h = left-past d n r p (omega (arith, bound, l)) h
-
-  module _ (g : b ≤ p) (l : p < past) where
-    pub first-room : p - b < n .positions r
-    first-room = omega (arith, e, bound, g, l)
-
-    pub left-on : positionsLeft d n r p ≡ (p - b) ∷ positionsLeft d n r (p - b + 1 - b)
-    left-on = rw e (left-is d n r p (omega (arith, e, g)) (omega (arith, bound, l)))
-
-    pub left-less : length (positionsLeft d n r (p - b + 1 - b)) < length (positionsLeft d n r p)
-    left-less = omega (arith, ap (λ (x : List ℕ). length x) left-on)
-
-    pub within-on : Within d n r p → Within d n r (p - b + 1 - b)
-    within-on h = rw e (within-is d n r p (omega (arith, e, g)) h)
-
-pub left-start : (d : Direction) (n : Net) (r p : ℕ) {b : ℕ} → b ≡ backOf d → p < b → positionsLeft d n r p ≡ []
-left-start d n r p e l = left-below d n r p (omega (arith, e, l))
-
-pub back-fits : (d : Direction) (q : ℕ) {b : ℕ} → b ≡ backOf d → b ≤ q + 1
-back-fits d q e = omega (arith, e, back-most d)
-
-pub mark-fits : {w : List ℕ} {o : Round} {r from x : ℕ} → InRound w o → r < o .routes → from ≡ x → x < netOf w .positions r
-    → from + 1 < 4_294_967_296
-unfolding netOf
-mark-fits {r = r} h i e l = omega (arith, h .fixed .accepted .laid .positions-limit r (rw (h .fixed .routes) at i))
+  next-within : (d : Direction) (p : ℕ) → p < n .positions r → Within d n r (nextOf d p)
+  unfolding nextOf pastOf
+  next-within Departure p l = record {
+    within = λ real.
+        split (eqb (p + 1) (n .positions r)) (λ e. absurd (real (eqb-true (p + 1) (n .positions r) e)))
+        (λ e. let other = eqb-false (p + 1) (n .positions r) e in omega (arith, l, other));
+  }
+  next-within Arrival zero l = record { within = λ real. absurd (real refl) }
+  next-within Arrival (suc p) l = record { within = λ real. omega arith }
 
 -- ---- what stands fixed, for who asks
 module _ {w stops : List ℕ} {o : Round} {r : ℕ} (h : Rideable w o r stops) where
@@ -143,7 +97,7 @@ module _ {w stops : List ℕ} {o : Round} {r : ℕ} (h : Rideable w o r stops) w
   known-riding = h .known tt
 
   pub known-laid : Laid w
-  known-laid = known-riding .round .fixed .accepted .laid
+  known-laid = known-riding .round .fixed .searchable .laid
 
   pub known-route : r < netOf w .routes
   known-route = known-riding .route
@@ -151,16 +105,50 @@ module _ {w stops : List ℕ} {o : Round} {r : ℕ} (h : Rideable w o r stops) w
   pub known-room : {q : ℕ} → q < netOf w .positions r → q < length stops
   known-room l = stop-room known-riding l
 
-  pub known-call : {q : ℕ} → q < netOf w .positions r → OnRoute w (record { route = r; position = q; stop = getD stops q 0 })
+  pub known-stop : {q : ℕ} → q < netOf w .positions r → getD stops q 0 < o .stops
+  known-stop {q} l = call-in {here = record { route = r; position = q; stop = getD stops q 0; label = record { 0 = 0 } }} known-riding (call-at known-riding l)
+
+  pub known-call : {q : ℕ} {x : Time} → q < netOf w .positions r
+      → OnRoute w (record { route = r; position = q; stop = getD stops q 0; label = x })
   known-call l = call-at known-riding l
 
-  pub known-fits : {q : ℕ} → q < netOf w .positions r → q + 1 < 4_294_967_296
+  few-positions : netOf w .positions r < MAX
   unfolding netOf
-  known-fits l = omega (arith, known-laid .positions-limit r known-route)
+  few-positions = omega (arith, known-laid .positions-limit r known-route)
 
-  pub known-past : (d : Direction) {b end : ℕ} → b ≡ backOf d → end ≡ netOf w .positions r → end + b < 4_294_967_296
-  unfolding netOf
-  known-past d e f = omega (arith, e, f, back-most d, known-laid .positions-limit r known-route)
+  pub known-fits : {q : ℕ} → q < netOf w .positions r → q < 18_446_744_073_709_551_616
+  known-fits l = omega (arith, few-positions)
+
+  pub known-scaled : {q : ℕ} → q < netOf w .positions r → q * 4 < 18_446_744_073_709_551_616
+  known-scaled l = omega (arith, few-positions)
+
+  pub known-next : {q : ℕ} → q < netOf w .positions r → q < MAX
+  known-next l = omega (arith, few-positions)
+
+  -- the scan goes on at p
+  module _ {p end past : ℕ} (e : end ≡ netOf w .positions r) (f : past ≡ pastOf (o .direction) end) where
+    pub on-way : Within (o .direction) (netOf w) r p → (p ≡ past → ⊥) → p < netOf w .positions r
+    on-way z real = z .within (λ g. real (g ∙ sym (rw e at f)))
+
+    pub left-end : p ≡ past → positionsLeft (o .direction) (netOf w) r p ≡ []
+    left-end g = past-all (o .direction) (netOf w) r p (g ∙ rw e at f)
+
+  module _ {p : ℕ} (l : p < netOf w .positions r) where
+    pub left-start : positionsLeft (o .direction) (netOf w) r p ≡ course (o .direction) (netOf w) r p
+    left-start = from-mark (netOf w) r few-positions (o .direction) p l
+
+    pub within-start : Within (o .direction) (netOf w) r p
+    within-start = record { within = λ _. l }
+
+    module _ {q : ℕ} (e : q ≡ nextOf (o .direction) p) where
+      pub left-on : positionsLeft (o .direction) (netOf w) r p ≡ p ∷ positionsLeft (o .direction) (netOf w) r q
+      left-on = rw e (first-left (netOf w) r few-positions (o .direction) p l)
+
+      pub left-less : length (positionsLeft (o .direction) (netOf w) r q) < length (positionsLeft (o .direction) (netOf w) r p)
+      left-less = omega (arith, ap (λ (x : List ℕ). length x) left-on)
+
+      pub within-on : Within (o .direction) (netOf w) r q
+      within-on = rw e (next-within (netOf w) r few-positions (o .direction) p l)
 
 module _ (w : List ℕ) (o : Round) (r : ℕ) (whole ws₀ ms₀ : List ℕ) where
   pub record Along (ws ms : List ℕ) (ride : Ride) (ps : List ℕ) : Type 0 where
@@ -171,10 +159,10 @@ module _ (w : List ℕ) (o : Round) (r : ℕ) (whole ws₀ ms₀ : List ℕ) whe
     pub seated : Seated w r ride
 
 module _ {w : List ℕ} {o : Round} {r : ℕ} {whole ws₀ ms₀ : List ℕ} where
-  pub along-start : Usable (o .stops) (o .routes) ws₀ ms₀
-      → Along w o r whole ws₀ ms₀ ws₀ ms₀ (record { trip = MAX; since = 0; row = 0; place = MAX }) whole
-  along-start u = record {
-    rest = rw (aboard-off (record { trip = MAX; since = 0; row = 0; place = MAX }) refl);
+  pub along-start : {ps : List ℕ} → Usable (o .stops) (o .routes) ws₀ ms₀ → ps ≡ whole
+      → Along w o r whole ws₀ ms₀ ws₀ ms₀ (record { trip = 0; since = 0; row = 0; place = MAX }) ps
+  along-start u e = record {
+    rest = rw (e, aboard-off (record { trip = 0; since = 0; row = 0; place = MAX }) refl);
     usable = u;
     seated = record { seat = λ real. absurd (real refl) };
   }

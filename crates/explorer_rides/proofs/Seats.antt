@@ -8,9 +8,11 @@ use borrow.Author.Tests.{eq-eqb, ne-eqb}
 use Rattle.model.specs.declared.Aboard.the-variants.{On, Off}
 use Rattle.model.specs.Moments.{MAX}
 use Rattle.repository.specs.NetOf.{netOf}
-use Rattle.repository.specs.Rows.{timeCount}
+use Rattle.shared.specs.declared.Time.{Time}
+use Rattle.repository.specs.Rows.{TripOf, timeCount}
 use Rattle.repository.proofs.Stops.{stop-known}
-use Rattle.repository.proofs.Trips.{time-known}
+use Rattle.repository.specs.Readable.{Searchable}
+use Rattle.repository.proofs.Trips.{time-known, place-few}
 use Rattle.allocator.proofs.Tabulated.{tab-length, tab-at}
 use Rattle.explorer.specs.declared.Round.{Round}
 use Rattle.explorer_rides.specs.declared.Call.{Call}
@@ -30,37 +32,44 @@ module _ {w stops : List ℕ} {o : Round} {r : ℕ} (h : Riding w o r stops) whe
     stop-read =
         ap (λ (x : List ℕ). getD x p 0) (h .along) ∙ tab-at (netOf w .stopAt r) (netOf w .positions r) p 0 l
 
-    pub call-at : OnRoute w (record { route = r; position = p; stop = getD stops p 0 })
-    call-at = record { accepted = h .round .fixed .accepted; route = h .route; position = l; stop = stop-read }
+    pub call-at : {x : Time} → OnRoute w (record { route = r; position = p; stop = getD stops p 0; label = x })
+    call-at = record { searchable = h .round .fixed .searchable; route = h .route; position = l; stop = stop-read }
 
 pub call-in : {w stops : List ℕ} {o : Round} {here : Call} → Riding w o (here .route) stops → OnRoute w here
     → here .stop < o .stops
-call-in h q = rw (h .round .fixed .stops) (stop-known (q .accepted) (q .route) (q .position) (q .stop))
+call-in h q = rw (h .round .fixed .stops) (stop-known (q .searchable) (q .route) (q .position) (q .stop))
 
 -- ---- the trip aboard
 module _ {w : List ℕ} {r : ℕ} {ride : Ride} (s : Seat w r ride) where
+  seat-trip : TripOf (netOf w) r (ride .trip)
+  seat-trip = record { place = ride .place; within = s .place; trip = s .trip }
+
   pub seat-room : {o : Round} {stops : List ℕ} → Riding w o r stops → ride .since < length stops
   seat-room h = stop-room h (s .since)
 
   pub seat-times : {o : Round} {stops : List ℕ} → Riding w o r stops → ride .row + ride .since < timeCount w
-  seat-times h = time-known (h .round .fixed .accepted) (h .route) (s .trip) (s .since) (s .times)
+  seat-times h = time-known (h .round .fixed .searchable) (h .route) seat-trip (s .since) (s .times)
 
-module _ {w : List ℕ} {r : ℕ} {ride : Ride} (z : Seated w r ride) (e : ride .trip ≡ MAX → ⊥) where
+module _ {w : List ℕ} {r : ℕ} {ride : Ride} (z : Seated w r ride) (e : ride .place ≡ MAX → ⊥) where
   pub seat-on : Seat w r ride
   seat-on = z .seat e
 
 module _ {w : List ℕ} {here : Call} {ride : Ride} (q : OnRoute w here) where
   pub times-in : Seat w (here .route) ride → ride .row + here .position < timeCount w
-  times-in s = time-known (q .accepted) (q .route) (s .trip) (q .position) (s .times)
+  times-in s = time-known (q .searchable) (q .route) (seat-trip s) (q .position) (s .times)
 
-  pub times-known : Seated w (here .route) ride → (ride .trip ≡ MAX → ⊥) → ride .row + here .position < timeCount w
-  times-known z e = times-in (seat-on z e)
+-- a place of a route is none of MAX: "16,384 trips"
+pub place-real : {w : List ℕ} {r i : ℕ} → Searchable w → r < netOf w .routes → i < netOf w .trips r → i ≡ MAX → ⊥
+place-real h l k e = omega (arith, place-few h l k)
+
+pub seat-real : {w : List ℕ} {here : Call} {a : Ride} → OnRoute w here → Seat w (here .route) a → a .place ≡ MAX → ⊥
+seat-real q s = place-real (q .searchable) (q .route) (s .place)
 
 module _ (a : Ride) where
-  pub aboard-on : (a .trip ≡ MAX → ⊥) → aboard a ≡ On (a .trip) (a .since)
+  pub aboard-on : (a .place ≡ MAX → ⊥) → aboard a ≡ On (a .trip) (a .since)
   unfolding aboard
-  aboard-on e = rw (ne-eqb (a .trip) MAX e)
+  aboard-on e = rw (ne-eqb (a .place) MAX e)
 
-  pub aboard-off : a .trip ≡ MAX → aboard a ≡ Off
+  pub aboard-off : a .place ≡ MAX → aboard a ≡ Off
   unfolding aboard
-  aboard-off e = rw (eq-eqb (a .trip) MAX e)
+  aboard-off e = rw (eq-eqb (a .place) MAX e)

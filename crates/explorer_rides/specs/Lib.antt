@@ -1,3 +1,4 @@
 -- The definitions that the contracts of `explorer_rides` cite.
 pub mod Riding
-pub mod Left
+pub mod Looking
+pub mod Course

@@ -1,10 +1,10 @@
 -- A ride as the scan carries it, and what stands fixed along a route.
-use Prim.Native.Nat.{ℕ, zero, suc, _<_}
+use Prim.Native.Nat.{ℕ, _<_}
 use mathlib.Core.Path.{_≡_}
 use mathlib.Core.Logic.{_≢_}
-use mathlib.Core.Bool.{Bool, cond}
+use mathlib.Core.Bool.{cond}
 use mathlib.Core.List.{List}
-use lib.Dec.{leb, eqb}
+use lib.Dec.{eqb}
 use Rattle.base.specs.Tab.{tab}
 use Rattle.model.specs.declared.Aboard.{Aboard}
 use Rattle.model.specs.declared.Aboard.the-variants.{On, Off}
@@ -16,11 +16,10 @@ use Rattle.model.specs.Tables.{Net}
 use Rattle.model.specs.Legs.{legOf}
 use Rattle.model.specs.Moments.{MAX, reading}
 use Rattle.model.specs.Rides.{leave, catch, allows, boarded}
-use Rattle.repository.specs.Accepted.{Accepted}
+use Rattle.repository.specs.Readable.{Searchable}
 use Rattle.repository.specs.Sections.{arrivalIn, departureIn}
 use Rattle.repository.specs.NetOf.{netOf}
-use Rattle.repository.specs.Rows.{TripOf, timeRow}
-use Rattle.discovery.specs.Trips.{tripPlace}
+use Rattle.repository.specs.Rows.{timeRow}
 use Rattle.discovery.specs.declared.Trip.{Trip}
 use Rattle.discovery.specs.declared.Trip.the-variants.{At, Nothing}
 use Rattle.explorer.specs.declared.Round.{Round}
@@ -30,17 +29,18 @@ use Rattle.explorer_rides.specs.declared.Call.{Call}
 
 -- the model's word for it
 unfoldable pub aboard : Ride → Aboard
-aboard a = cond (eqb (a .trip) MAX) Off (On (a .trip) (a .since))
+aboard a = cond (eqb (a .place) MAX) Off (On (a .trip) (a .since))
 
--- the trip is one of the route's, boarded at a position of it, and its times begin at the row
+-- the trip stands at that place of the route, was boarded at a position of it, and its times begin at the row
 pub record Seat (w : List ℕ) (r : ℕ) (a : Ride) : Type 0 where
-  pub trip : TripOf (netOf w) r (a .trip)
+  pub place : a .place < netOf w .trips r
+  pub trip : a .trip ≡ netOf w .tripAt r (a .place)
   pub since : a .since < netOf w .positions r
   pub times : a .row ≡ timeRow w (a .trip)
 
 -- so it is where there is a trip
 pub record Seated (w : List ℕ) (r : ℕ) (a : Ride) : Type 0 where
-  pub seat : a .trip ≢ MAX → Seat w r a
+  pub seat : a .place ≢ MAX → Seat w r a
 
 -- the trip at a place of route r is boarded at position p; where there is none, the ride a goes on
 unfoldable pub caught : List ℕ → ℕ → ℕ → Ride → Trip → Ride
@@ -63,7 +63,7 @@ pub record Rideable (w : List ℕ) (o : Round) (r : ℕ) (stops : List ℕ) : Ty
 
 -- at a call: a position of a route, with its stop
 pub record OnRoute (w : List ℕ) (here : Call) : Type 0 where
-  pub accepted : Accepted w
+  pub searchable : Searchable w
   pub route : here .route < netOf w .routes
   pub position : here .position < netOf w .positions (here .route)
   pub stop : here .stop ≡ netOf w .stopAt (here .route) (here .position)
@@ -71,14 +71,6 @@ pub record OnRoute (w : List ℕ) (here : Call) : Type 0 where
 -- the model's `board` where the label of the round before is x
 unfoldable pub boardAt : Direction → Net → ℕ → ℕ → ℕ → Aboard → Aboard
 boardAt d n r p x a = cond (allows d n (reading d x) p a) (boarded p a (catch d n r p (reading d x))) a
-
--- the ride that goes on from a call where the label of the round before is x: the trip that the label catches, where it allows one
-unfoldable pub ridesOn : Direction → List ℕ → Call → ℕ → Ride → Ride
-ridesOn d w here zero a = a
-ridesOn d w here (suc k) a =
-    cond (allows d (netOf w) (suc k) (here .position) (aboard a))
-    (caught w (here .route) (here .position) a (tripPlace d (netOf w) (here .route) (here .position) (suc k)))
-    a
 
 -- when the trip whose times begin at the row comes to position p, and when it goes on from there, as the search goes
 abbrev pub reachIn : Direction → List ℕ → ℕ → ℕ → ℕ
@@ -88,8 +80,3 @@ reachIn Arrival w row p = departureIn w row p
 abbrev pub leaveIn : Direction → List ℕ → ℕ → ℕ → ℕ
 leaveIn Departure w row p = departureIn w row p
 leaveIn Arrival w row p = arrivalIn w row p
-
--- who is there at the label x can take what goes on at t
-abbrev pub meets : Direction → ℕ → ℕ → Bool
-meets Departure t x = leb x t
-meets Arrival t x = leb t x

@@ -1,17 +1,14 @@
-// What the two scans share: a trip is caught at a position, and proposes the stops that it comes to.
-ghost use mathlib.Core.Bool.{_&&_};
+// A seat on a trip: it is caught at a position, and proposes the stops that the trip comes to.
 ghost use mathlib.Core.Path.{_≡_};
 ghost use Prim.Native.Nat.{_+_, _*_, _<_};
-ghost use lib.ListN.{getD};
-ghost use Rattle.model.specs.Moments.{better, ahead};
 ghost use Rattle.repository.specs.Laid.{Laid};
 ghost use Rattle.repository.specs.NetOf.{netOf};
 ghost use Rattle.repository.specs.Rows.{timeCount};
+ghost use Rattle.discovery.specs.declared.Trip.the-variants.{At};
 ghost use Rattle.discovery.specs.Trips.{tripPlace};
-ghost use Rattle.allocator.specs.Layout.{Words, bestOf};
 ghost use Rattle.allocator.specs.Does.{Usable, Does};
 ghost use Rattle.allocator.specs.Operations.{applied};
-ghost use Rattle.explorer_rides.specs.Riding.{Seat, caught, rideLeg, OnRoute, Riding, reachIn, leaveIn};
+ghost use Rattle.explorer_rides.specs.Riding.{Seat, Seated, caught, rideLeg, OnRoute, Riding, reachIn, leaveIn};
 use super::Call;
 use super::Ride;
 use allocator::Offer;
@@ -24,13 +21,15 @@ use shared::Time;
 
 // The first trip that arrives at the position not before the label; in an arrival search the last not after it. The trip at place `near`
 // is looked at first.
-fn find_trip(tables: &[u32], round: Round, here: Call, label: Time, near: u32) -> Trip
+fn find_trip(tables: &[u32], round: Round, here: Call, near: u32) -> Trip
     requires { ⌜ OnRoute (now tables) here ⌝ }
-    requires { ⌜ 0 < label .0 ⌝ }
-    ensures { λ t. ⌜ t ≡ tripPlace (round .direction) (netOf (now (tables .entry))) (here .route) (here .position) (label .0) ⌝ }
+    requires { ⌜ 0 < here .label .0 ⌝ }
+    ensures { λ t. ⌜ t
+        ≡ tripPlace (round .direction) (netOf (now (tables .entry))) (here .route) (here .position) (here .label .0) ⌝ }
 {
     let r = here.route;
     let p = here.position;
+    let label = here.label;
     let d = round.direction;
     match d {
         Direction::Departure => discovery::find_earliest_trip(tables, r, p, label, near),
@@ -38,36 +37,53 @@ fn find_trip(tables: &[u32], round: Round, here: Call, label: Time, near: u32) -
     }
 }
 
-// Boards that trip. Where there is none, the ride goes on.
-pub fn catch_trip(tables: &[u32], round: Round, here: Call, label: Time, ride: Ride) -> Ride
+// A seat on the trip at place i of the route. Where it is the trip aboard, which it is more often than not, all but the position is known.
+fn seat_at(tables: &[u32], here: Call, ride: Ride, i: u32) -> Ride
     requires { ⌜ OnRoute (now tables) here ⌝ }
-    requires { ⌜ 0 < label .0 ⌝ }
+    requires { ⌜ Seated (now tables) (here .route) ride ⌝ }
+    requires { ⌜ i < netOf (now tables) .trips (here .route) ⌝ }
+    ensures { λ e. ⌜ e ≡ caught (now (tables .entry)) (here .route) (here .position) ride (At i) ⌝ }
+{
+    let since = here.position;
+    if i == ride.place {
+        return Ride {
+            trip: ride.trip,
+            since: since,
+            row: ride.row,
+            place: i,
+        };
+    }
+    let v = repository::routes::trip_at(tables, here.route, i);
+    Ride {
+        trip: v,
+        since: since,
+        row: repository::times::time_row(tables, v),
+        place: i,
+    }
+}
+
+// Boards that trip. Where there is none, the ride goes on.
+pub fn catch_trip(tables: &[u32], round: Round, here: Call, ride: Ride) -> Ride
+    requires { ⌜ OnRoute (now tables) here ⌝ }
+    requires { ⌜ Seated (now tables) (here .route) ride ⌝ }
+    requires { ⌜ 0 < here .label .0 ⌝ }
     ensures { λ e. ⌜ e
         ≡ caught (now (tables .entry)) (here .route) (here .position) ride
-        (tripPlace (round .direction) (netOf (now (tables .entry))) (here .route) (here .position) (label .0)) ⌝ }
+        (tripPlace (round .direction) (netOf (now (tables .entry))) (here .route) (here .position) (here .label .0)) ⌝ }
 {
-    let found = find_trip(tables, round, here, label, ride.place);
+    let found = find_trip(tables, round, here, ride.place);
     match found {
-        Trip::At(i) => {
-            let v = repository::routes::trip_at(tables, here.route, i);
-            return Ride {
-                trip: v,
-                since: here.position,
-                row: repository::times::time_row(tables, v),
-                place: i,
-            };
-        }
+        Trip::At(i) => seat_at(tables, here, ride, i),
         Trip::Nothing => ride,
     }
 }
 
 // When a trip comes to position p, as the search goes: its times begin at the row.
-fn reaches_at(tables: &[u32], round: Round, row: u32, p: u32) -> Time
+pub fn reaches_at(tables: &[u32], d: Direction, row: u32, p: u32) -> Time
     requires { ⌜ Laid (now tables) ⌝ }
     requires { ⌜ row + p < timeCount (now tables) ⌝ }
-    ensures { λ t. ⌜ t .0 ≡ reachIn (round .direction) (now (tables .entry)) row p ⌝ }
+    ensures { λ t. ⌜ t .0 ≡ reachIn d (now (tables .entry)) row p ⌝ }
 {
-    let d = round.direction;
     match d {
         Direction::Departure => repository::times::arrival_in(tables, row, p),
         Direction::Arrival => repository::times::departure_in(tables, row, p),
@@ -75,36 +91,15 @@ fn reaches_at(tables: &[u32], round: Round, row: u32, p: u32) -> Time
 }
 
 // When it goes on from there, as the search goes.
-pub fn leaves_at(tables: &[u32], round: Round, row: u32, p: u32) -> Time
+pub fn leaves_at(tables: &[u32], d: Direction, row: u32, p: u32) -> Time
     requires { ⌜ Laid (now tables) ⌝ }
     requires { ⌜ row + p < timeCount (now tables) ⌝ }
-    ensures { λ t. ⌜ t .0 ≡ leaveIn (round .direction) (now (tables .entry)) row p ⌝ }
+    ensures { λ t. ⌜ t .0 ≡ leaveIn d (now (tables .entry)) row p ⌝ }
 {
-    let d = round.direction;
     match d {
         Direction::Departure => repository::times::departure_in(tables, row, p),
         Direction::Arrival => repository::times::arrival_in(tables, row, p),
     }
-}
-
-// Whether the moment at which the trip aboard comes here passes both tests: against the target, and against the best moment of the stop.
-pub fn passes(tables: &[u32], words: &[u32], round: Round, here: Call, ride: Ride) -> bool
-    requires { ⌜ OnRoute (now tables) here ⌝ }
-    requires { ⌜ Seat (now tables) (here .route) ride ⌝ }
-    requires { ⌜ Words (round .stops) (round .routes) (now words) ⌝ }
-    requires { ⌜ here .stop < round .stops ⌝ }
-    ensures { λ c. ⌜ c
-        ≡ ahead (round .direction) (reachIn (round .direction) (now (tables .entry)) (ride .row) (here .position)) (round .target .0)
-        && better (round .direction) (reachIn (round .direction) (now (tables .entry)) (ride .row) (here .position))
-        (getD (bestOf (round .stops) (round .routes) (now (words .entry))) (here .stop) 0) ⌝ }
-{
-    let t = reaches_at(tables, round, ride.row, here.position);
-    let d = round.direction;
-    if allocator::is_ahead(d, t, round.target) {
-        let best = allocator::best_at(words, round.stops, round.routes, here.stop);
-        return allocator::is_better(d, t, best);
-    }
-    false
 }
 
 // The leg of the trip aboard, from the position where it was boarded to this one, which it reaches at t.
@@ -115,8 +110,8 @@ fn leg_from(tables: &[u32], stops: &[u32], round: Round, here: Call, t: Time, ri
 {
     let b = ride.since as usize;
     let near = stops[b];
-    let x = leaves_at(tables, round, ride.row, ride.since);
     let d = round.direction;
+    let x = leaves_at(tables, d, ride.row, ride.since);
     allocator::leg_of(d, LegType::Transit(ride.trip), near, x, here.stop, t)
 }
 
@@ -141,9 +136,9 @@ pub fn propose(
         (reachIn (round .direction) (now (tables .entry)) (ride .row) (here .position))))
         (now (words .entry)) (now (marks .entry)) (now (words .exit)) (now (marks .exit)) ⌝ }
 {
-    let t = reaches_at(tables, round, ride.row, here.position);
-    let g = leg_from(tables, stops, round, here, t, ride);
     let d = round.direction;
+    let t = reaches_at(tables, d, ride.row, here.position);
+    let g = leg_from(tables, stops, round, here, t, ride);
     let o = Offer {
         stop: here.stop,
         moment: t,

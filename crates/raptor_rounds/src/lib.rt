@@ -4,13 +4,11 @@ ghost use Prim.Native.Nat.{_<_};
 ghost use Rattle.model.specs.Round.{aim, listed};
 ghost use Rattle.model.specs.Search.{search as searchOf};
 ghost use Rattle.model.specs.Work.{stateOf};
-ghost use Rattle.model.specs.Choosing.{Placed};
 ghost use Rattle.repository.specs.NetOf.{netOf};
 ghost use Rattle.allocator.specs.Layout.{Words, Sized, view, bestOf};
 ghost use Rattle.allocator.specs.Does.{Usable, Does};
 ghost use Rattle.allocator.specs.Operations.{holding};
 ghost use Rattle.allocator.specs.Repeated.{startedAll};
-ghost use Rattle.explorer.specs.Fixed.{InRound};
 ghost use Rattle.explorer.specs.Fused.{ridesWork, feetWork};
 ghost use Rattle.explorer_choosing.specs.Chosen.{openedBy};
 ghost use Rattle.explorer_footpaths.specs.Footing.{Footing};
@@ -127,22 +125,6 @@ pub struct Ask {
     pub moment: Time,
 }
 
-// The rides of a round, as the direction has them.
-fn explore_rides(tables: &[u32], words: &mut [u32], marks: &mut [u64], round: Round)
-    requires { ⌜ InRound (now tables) round ⌝ }
-    requires { ⌜ Usable (round .stops) (round .routes) (now words) (now marks) ⌝ }
-    requires { ⌜ Placed (round .direction) (netOf (now tables)) (view (round .stops) (round .routes) (now words) (now marks)) ⌝ }
-    ensures { λ _. ⌜ Does (round .stops) (round .routes)
-        (ridesWork (round .direction) (netOf (now (tables .entry))) (round .number) (round .target .0))
-        (now (words .entry)) (now (marks .entry)) (now (words .exit)) (now (marks .exit)) ⌝ }
-{
-    let d = round.direction;
-    match d {
-        Direction::Departure => explorer_rides::explore_routes(tables, words, marks, round),
-        Direction::Arrival => explorer_rides::explore_routes_reverse(tables, words, marks, round),
-    }
-}
-
 // The first half: open the round, and ride.
 fn ride_half(tables: &[u32], words: &mut [u32], marks: &mut [u64], round: Round, mode: Mode)
     requires { ⌜ Tabled (now tables) (round .stops) (round .routes) ⌝ }
@@ -158,7 +140,7 @@ fn ride_half(tables: &[u32], words: &mut [u32], marks: &mut [u64], round: Round,
     let m = round.routes;
     let d = round.direction;
     explorer_choosing::open_round(tables, words, marks, n, m, mode, d);
-    explore_rides(tables, words, marks, round);
+    explorer_rides::explore_routes(tables, words, marks, round);
 }
 
 // The second half: hold what the rides left, and walk.

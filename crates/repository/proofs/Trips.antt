@@ -43,6 +43,11 @@ unfolding tripCount
 trip-few {w} {r} {i} h l k =
     let most = h .laid .trips-limit in omega (arith, trip-known {r = r} h l (place-of-trip {n = netOf w} {r = r} {i = i} k refl))
 
+-- so no route has more places for them
+pub place-few : {w : List ℕ} {r i : ℕ} → Searchable w → r < netOf w .routes → i < netOf w .trips r → i < MOST-TRIPS
+unfolding netOf count
+place-few h l k = omega (arith, (trip-of-route (h .laid) l) .within, h .laid .route-trips-size, h .laid .trips-limit)
+
 pub stands : {w : List ℕ} {r v p : ℕ} → Searchable w → r < netOf w .routes → TripOf (netOf w) r v
     → p < netOf w .positions r → Stands w v p
 stands h i t l = record { trip = trip-known h i t; row = time-known h i t l refl }

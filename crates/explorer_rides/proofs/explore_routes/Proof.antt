@@ -3,7 +3,7 @@ use borrow.Author.Needs.{needs}
 use mathlib.Core.Path.{_≡_}
 use Prim.Native.Nat.{_-_}
 use lib.ListN.{length}
-use Rattle.explorer_rides.proofs.Routes.{next-below, next-fits, next-room, next-less, Exploring, exploring-start, exploring-step, exploring-end, exploring-usable}
+use Rattle.explorer_rides.proofs.Routes.{next-below, next-fits, next-room, next-less, Exploring, exploring-start, exploring-step, exploring-end, exploring-usable, placed-on}
 use Rattle.explorer_rides.proofs.explore_routes.Statement.{statement}
 use Rattle.explorer_rides.proofs.explore_routes.Tie as tie
 
@@ -28,7 +28,10 @@ cast-explore-route : tie.Need-cast-explore-route Inv-loop μ-loop
 cast-explore-route c = record { fits = search (needs, next-fits) }
 
 explore-route-requires : tie.Need-explore-route-requires Inv-loop μ-loop
-explore-route-requires c κs = (search needs, (search needs, (search (needs, exploring-usable), search (needs, next-below))))
+explore-route-requires c κs = (
+  search needs,
+  (search (needs, exploring-usable), (search (needs, next-below), λ e. search (needs, placed-on, e))),
+)
 
 add-from : tie.Need-add-from Inv-loop μ-loop
 add-from c = record { fits = search (needs, next-room) }

@@ -23,4 +23,6 @@ returns-2 : tie.Need-returns-2
 returns-2 c = search (needs, leave-arrival)
 
 pub leaves-at-spec : {M : Type 1} → statement M
-leaves-at-spec = tie.close (tie.spec enum-told departure-in-requires enum-told-2 arrival-in-requires returns returns-2)
+leaves-at-spec =
+    tie.close
+    (tie.spec enum-told departure-in-requires enum-told-2 arrival-in-requires returns returns-2)

@@ -9,7 +9,7 @@ reaches-at-requires : tie.Need-reaches-at-requires
 reaches-at-requires c κs = (search needs, search (needs, times-in))
 
 leg-from-requires : tie.Need-leg-from-requires
-leg-from-requires c κs = (search needs, search needs)
+leg-from-requires c κs = search needs
 
 apply-requires : tie.Need-apply-requires
 apply-requires c κs = (search needs, (search (needs, call-in), search needs))
@@ -24,4 +24,12 @@ returns : tie.Need-returns
 returns c = search (needs, proposed)
 
 pub propose-spec : {M : Type 1} → statement M
-propose-spec = tie.close (tie.spec reaches-at-requires leg-from-requires apply-requires same-length same-length-2 returns)
+propose-spec =
+    tie.close
+    (tie.spec
+    reaches-at-requires
+    leg-from-requires
+    apply-requires
+    same-length
+    same-length-2
+    returns)

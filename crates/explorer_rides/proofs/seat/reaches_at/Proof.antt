@@ -23,4 +23,6 @@ returns-2 : tie.Need-returns-2
 returns-2 c = search (needs, reach-arrival)
 
 pub reaches-at-spec : {M : Type 1} → statement M
-reaches-at-spec = tie.close (tie.spec enum-told arrival-in-requires enum-told-2 departure-in-requires returns returns-2)
+reaches-at-spec =
+    tie.close
+    (tie.spec enum-told arrival-in-requires enum-told-2 departure-in-requires returns returns-2)

@@ -1,9 +1,9 @@
--- `passes`: both tests of a proposal.
+-- `proposes`: both tests of a proposal.
 use borrow.Author.Needs.{needs}
 use Rattle.explorer_rides.proofs.Seats.{times-in}
 use Rattle.explorer_rides.proofs.Alighting.{both-tested, one-failed}
-use Rattle.explorer_rides.proofs.seat.passes.Statement.{statement}
-use Rattle.explorer_rides.proofs.seat.passes.Tie as tie
+use Rattle.explorer_rides.proofs.position.proposes.Statement.{statement}
+use Rattle.explorer_rides.proofs.position.proposes.Tie as tie
 
 reaches-at-requires : tie.Need-reaches-at-requires
 reaches-at-requires c κs = (search needs, search (needs, times-in))
@@ -23,6 +23,13 @@ returns c = search (needs, both-tested)
 returns-2 : tie.Need-returns-2
 returns-2 c = search (needs, one-failed)
 
-pub passes-spec : {M : Type 1} → statement M
-passes-spec =
-    tie.close (tie.spec reaches-at-requires is-ahead-requires best-at-requires is-better-requires returns returns-2)
+pub proposes-spec : {M : Type 1} → statement M
+proposes-spec =
+    tie.close
+    (tie.spec
+    reaches-at-requires
+    is-ahead-requires
+    best-at-requires
+    is-better-requires
+    returns
+    returns-2)
