@@ -4,3 +4,4 @@ pub mod Tests
 pub mod Shown
 pub mod Whole
 pub mod Examples
+pub mod Unlisted
