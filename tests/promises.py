@@ -16,7 +16,7 @@ SUM = "ba136ed764470bc4"
 DOCUMENT = os.path.join(HERE, "../shared/docs/01-scope.md")
 WHOLE = [("The workspace is untouched on", "number it is testing."), ("The equality of demand 2 covers", "with one span."), ("Each public function states", "run and compared.")]
 # What a theorem may suppose of tables, orders and queries: where one that is cited does, a witness is wanted.
-SUPPOSED = ["Accepted", "Laid", "Listed", "Timed", "Ordered", "Measured", "Sound", "Narrow", "Asked", "Fair", "BothWays", "Same", "SamePlaces", "Alike"]
+SUPPOSED = ["Accepted", "Laid", "Listed", "Timed", "Ordered", "Measured", "Searchable", "Sound", "SoundPlaces", "Narrow", "Asked", "Fair", "BothWays", "Same", "SamePlaces", "Alike"]
 MADE = "<!-- From here on made by tests/promises.py: what the rows cite beside the above, row by row. -->"
 TOKEN = re.compile(r"\[`([^`]+)`\]\(([^)]*)\)|`([^`]+)`")
 BLOCK = re.compile(r'^<a id="[^"]*"></a>\[`([^`]+)`\]\([^)]*\) `([^`]+)`\n\n```text\n(?:(?!```).*\n)*```$', re.M)

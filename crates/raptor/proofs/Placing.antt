@@ -22,7 +22,7 @@ use Rattle.model.specs.Sound.{Sound, Asked}
 use Rattle.model.proofs.Asking.{Passed, passed, asked}
 use Rattle.repository.specs.Accepted.{Accepted}
 use Rattle.repository.specs.NetOf.{netOf}
-use Rattle.repository.proofs.Sound.{accepted-sound}
+use Rattle.repository.proofs.Sound.{accepted-sound-places}
 use Rattle.repository.proofs.Ranges.{stops-few}
 use Rattle.repository.proofs.Areas.{area-fits}
 use Rattle.raptor_query.specs.Areas.{areaPart}
@@ -86,7 +86,7 @@ module _ {t : List ℕ} {q : Query} {ask : Ask} (y : Posed t q ask) where
   p = passed (netOf t) q z
 
   a : Asked (netOf t) (taskOf (netOf t) q)
-  a = asked (netOf t) (accepted-sound (posed-accepted y)) q z
+  a = asked (netOf t) (accepted-sound-places (posed-accepted y)) q z
 
   pub from-there : exists (netOf t) (q .from) ≡ true
   from-there = p .from

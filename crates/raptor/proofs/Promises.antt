@@ -43,7 +43,7 @@ use Rattle.model.proofs.Fitting.{journey-fits}
 use Rattle.repository.specs.Accepted.{Accepted}
 use Rattle.repository.specs.NetOf.{netOf}
 use Rattle.repository.specs.Checked.{checkOf}
-use Rattle.repository.proofs.Sound.{accepted-sound}
+use Rattle.repository.proofs.Sound.{accepted-sound, accepted-sound-places}
 use Rattle.repository.proofs.Narrow.{accepted-narrow}
 use Rattle.check_tables.proofs.Whole.{accepted-is, check-most}
 use Rattle.allocator.specs.Layout.{view}
@@ -220,12 +220,12 @@ module _ (t : List ℕ) (q : Query) (before : Lent) {r : Answer} {after : Lent} 
   unrefused-query b = unrefused (checkOf t) (sized (netOf t) before) (netOf t) q (none-refused b)
 
   task-asked : ran r ≡ true → Asked (netOf t) (taskOf (netOf t) q)
-  task-asked b = asked (netOf t) (accepted-sound (accepted b)) q (unrefused-query b)
+  task-asked b = asked (netOf t) (accepted-sound-places (accepted b)) q (unrefused-query b)
 
   -- "11 a chosen stop but no leg" is given for no input
   pub never-failed : r ≢ FailedToBuildRoute
   never-failed e =
-      never-11 (netOf t) (accepted-sound (accepted (ap ran e))) q (checkOf t) (sized (netOf t) before) (length (before .journey)) (sym (h .answers) ∙ e)
+      never-11 (netOf t) (accepted-sound (accepted (ap ran e))) (accepted-sound-places (accepted (ap ran e))) q (checkOf t) (sized (netOf t) before) (length (before .journey)) (sym (h .answers) ∙ e)
 
   -- no journey takes more than 69,692 bytes: 4,096 legs of 17, and 4 more for each of 15 rides
   pub length-most : (given r) .length ≤ 69_692

@@ -21,6 +21,7 @@ use Rattle.model.specs.Round.{listed}
 use Rattle.model.specs.Search.{search}
 use Rattle.repository.specs.Accepted.{Accepted}
 use Rattle.repository.specs.NetOf.{netOf}
+use Rattle.repository.proofs.Asked.{accepted-searchable}
 use Rattle.raptor_query.specs.Areas.{areaPart}
 use Rattle.raptor_query.proofs.Places.{stop-there}
 use Rattle.raptor_query.specs.Directed.{directionOf}
@@ -71,14 +72,15 @@ module _ (n : Net) (q : Query) {a : Ask} (e : a ≡ askOf n q) where
 pub posed-of : {t : List ℕ} {q : Query} {a : Ask} {k : ℕ} → Accepted t → a ≡ askOf (netOf t) q → k ≡ refusal (netOf t) q → k ≡ 0
     → Posed t q a
 posed-of h e f z = record {
-  tabled = record { known = λ u. record { accepted = h; stops = ask-stops _ _ e; routes = ask-routes _ _ e } };
+  known = λ u. h;
+  tabled = record { known = λ u. record { searchable = accepted-searchable h; stops = ask-stops _ _ e; routes = ask-routes _ _ e } };
   asks = e;
   unrefused = sym f ∙ z;
 }
 
 module _ {t : List ℕ} {q : Query} {a : Ask} (p : Posed t q a) where
   pub posed-accepted : Accepted t
-  posed-accepted = p .tabled .known tt .accepted
+  posed-accepted = p .known tt
 
   pub posed-stops : a .stops ≡ netOf t .stops
   posed-stops = p .tabled .known tt .stops

@@ -27,7 +27,7 @@ use Rattle.model.proofs.Asking.{asked}
 use Rattle.model.proofs.Orders.{listed-fair}
 use Rattle.model.proofs.Search.{Reached, reached}
 use Rattle.repository.specs.NetOf.{netOf}
-use Rattle.repository.proofs.Sound.{accepted-sound}
+use Rattle.repository.proofs.Sound.{accepted-sound, accepted-sound-places}
 use Rattle.allocator.specs.Layout.{Sized, view, parentsOf}
 use Rattle.allocator.specs.Tidy.{Tidy}
 use Rattle.allocator.specs.Does.{Usable}
@@ -83,8 +83,8 @@ module _ {t : List ℕ} {q : Query} {ask : Ask} (v : Posed t q ask) (w y : List 
     back : Reached (netOf t) (taskOf (netOf t) q) 15 ((searched (netOf t) q) .parents) ((searched (netOf t) q) .times .target)
     unfolding searched
     back =
-        let ok = accepted-sound (posed-accepted v) in
-        reached (netOf t) (taskOf (netOf t) q) ok (asked (netOf t) ok q z) listed listed-fair (rw found at h)
+        let places = accepted-sound-places (posed-accepted v) in
+        reached (netOf t) (taskOf (netOf t) q) (accepted-sound (posed-accepted v)) (asked (netOf t) places q z) listed listed-fair (rw found at h)
 
     traced : Traced d n (parentsOf n m w) (g .round) (g .stop)
     traced = rw (parents, found, ed, ← (task-directed (netOf t) q), posed-stops v) (reached-traced (netOf t) (taskOf (netOf t) q) back)

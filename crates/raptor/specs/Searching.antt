@@ -11,6 +11,7 @@ use Rattle.model.specs.Tables.{Net}
 use Rattle.model.specs.Places.{exists, placeStops}
 use Rattle.model.specs.Answer.{mayWalk, momentOf, refusal, searched, legsOf, reply}
 use Rattle.model.specs.Left.{placed, written}
+use Rattle.repository.specs.Accepted.{Accepted}
 use Rattle.repository.specs.NetOf.{netOf}
 use Rattle.raptor_query.specs.Areas.{areaPart}
 use Rattle.raptor_query.specs.Directed.{directionOf}
@@ -31,8 +32,9 @@ askOf n q = record {
   moment = record { 0 = momentOf (q .time) };
 }
 
--- a query that accepted tables do not refuse, as it is asked
+-- a query that accepted tables do not refuse, as it is asked; their many facts stand behind a function
 pub record Posed (t : List ℕ) (q : Query) (a : Ask) : Type 0 where
+  pub known : Unit {0} → Accepted t
   pub tabled : Tabled t (a .stops) (a .routes)
   pub asks : a ≡ askOf (netOf t) q
   pub unrefused : refusal (netOf t) q ≡ 0

@@ -12,7 +12,7 @@ use Rattle.model.specs.Round.{aim, listed}
 use Rattle.model.specs.Search.{search}
 use Rattle.model.specs.State.{Task, task}
 use Rattle.repository.specs.NetOf.{netOf}
-use Rattle.repository.proofs.Sound.{accepted-sound}
+use Rattle.repository.proofs.Sound.{searchable-sound}
 use Rattle.allocator.specs.Layout.{view, bestOf, markOf}
 use Rattle.allocator.specs.Does.{Usable, Does}
 use Rattle.allocator.specs.Operations.{cleared, swapped}
@@ -93,7 +93,7 @@ at-start {tables} a {ss = ss} {gs = gs} b =
       usable = b .usable;
       goals = b .goals-in;
       rounds =
-          search-start (netOf tables) (a .direction) (a .mode) (a .walking) ss gs (a .moment .0) (accepted-sound (x .accepted))
+          search-start (netOf tables) (a .direction) (a .mode) (a .walking) ss gs (a .moment .0) (searchable-sound (x .searchable))
           (rw (← (x .stops)) (b .starts-in)) (rw (← (x .stops)) (b .goals-in)) (b .moment) refl
           (rw (← (x .stops), ← (x .routes)) (b .holds));
     }

@@ -1,4 +1,4 @@
--- Accepted tables with n stops and m routes, behind a function: `Accepted` has many facts, and only who asks for them has them.
+-- Searchable tables with n stops and m routes, behind a function: `Searchable` has many facts, and only who asks for them has them.
 use Prim.Native.Nat.{ℕ}
 use mathlib.Core.List.{List}
 use Rattle.explorer.specs.Fixed.{Fixed}

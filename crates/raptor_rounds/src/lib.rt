@@ -233,7 +233,7 @@ fn rounds(
     g
 }
 
-// The search between two lists of stops, on accepted tables: it leaves the workspace in the state in which the model's search
+// The search between two lists of stops, on searchable tables: it leaves the workspace in the state in which the model's search
 // ends, and gives its target.
 pub fn search(
     tables: &[u32],

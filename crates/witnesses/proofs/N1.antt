@@ -17,13 +17,13 @@ use Rattle.model.specs.Work.{SameTimes}
 use Rattle.model.specs.Search.{search}
 use Rattle.model.specs.Journey.{Departing, Dated}
 use Rattle.model.specs.AskedFor.{AskedFor}
-use Rattle.model.specs.Sound.{Sound}
+use Rattle.model.specs.Sound.{Sound, SoundPlaces}
 use Rattle.model.proofs.Examples.{N as listedN}
 use Rattle.model.proofs.Alike.{alike-answered}
 use Rattle.repository.specs.Accepted.{Accepted}
 use Rattle.repository.specs.NetOf.{netOf}
 use Rattle.repository.specs.Checked.{checkOf}
-use Rattle.repository.proofs.Sound.{accepted-sound}
+use Rattle.repository.proofs.Sound.{accepted-sound, accepted-sound-places}
 use Rattle.check_tables.proofs.Examples.{N, N-accepted}
 use Rattle.check_tables.proofs.Whole.{accepted-is}
 use Rattle.allocator.specs.Layout.{view}
@@ -33,14 +33,17 @@ use Rattle.raptor.proofs.Promises.{journey-bytes, reads-back, departure-journey
 use Rattle.witnesses.proofs.Turned.{turned, turned-fair}
 use Rattle.witnesses.proofs.Computed.{N-alike, from-0-at-50, N1-legs, N1-searched, N1-answered, N10-answered, N-places}
 
--- `accepted-sound`, of words that are accepted
+-- `accepted-sound` and `accepted-sound-places`, of words that are accepted
 pub N-words-sound : Sound (netOf N)
 N-words-sound = accepted-sound N-accepted
+
+pub N-words-places : SoundPlaces (netOf N)
+N-words-places = accepted-sound-places N-accepted
 
 -- `alike-answered`: on N's words every query is answered as on network N as document 01 lists it
 pub N-answered : (q : Query) (fault : ℕ) (fits : Bool) (room : ℕ)
     → answer fault fits (netOf N) q room ≡ answer fault fits listedN q room
-N-answered = alike-answered N-alike N-words-sound
+N-answered = alike-answered N-alike N-words-sound N-words-places
 
 -- a workspace of the lengths that the words ask for (`roomy` of Computed.antt)
 pub answered : (t : List ℕ) → Accepted t → (q : Query) {before : Lent} {r : Answer} {after : Lent} → Solved t q before r after
