@@ -1,8 +1,7 @@
 -- Accepted tables have what each reader asks of them.
 use Prim.Native.Nat.{ℕ}
 use mathlib.Core.List.{List}
-use Rattle.repository.specs.NetOf.{netOf}
-use Rattle.repository.specs.Accepted.{Timed, Listed, Accepted}
+use Rattle.repository.specs.Accepted.{Listed, Accepted}
 use Rattle.repository.specs.Readable.{Readable, Indexed, Searchable}
 
 listed-indexed : {w : List ℕ} → Listed w → Indexed w
@@ -32,7 +31,3 @@ accepted-searchable h = record {
   ordered = h .ordered;
   measured = h .measured;
 }
-
--- "no number 3": a law, and not a field that crates above project
-pub searchable-timed : {w : List ℕ} → Searchable w → Timed (netOf w)
-searchable-timed h = h .timed

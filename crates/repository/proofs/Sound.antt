@@ -18,7 +18,7 @@ use Rattle.repository.proofs.Lists.{transfers-are, walks-are, rest-said
 use Rattle.repository.proofs.Ranges.{of-stop, row-known, transfer-known, walk-known}
 use Rattle.repository.proofs.Stops.{stop-known, station-in}
 use Rattle.repository.proofs.Exact.{routes-contain}
-use Rattle.repository.proofs.Asked.{searchable-timed, accepted-searchable}
+use Rattle.repository.proofs.Asked.{accepted-searchable}
 
 module _ {w : List ℕ} (h : Searchable w) where
   transfers-in : (s : ℕ) (f : Foot) → s < netOf w .stops → List·Memᴰ f (netOf w .transfers s) → f .to < netOf w .stops
@@ -56,10 +56,10 @@ searchable-sound h = record {
   stops-in = λ r p i l. stop-known h i l refl;
   routes-in = λ s r i m. (routes-contain h i r m) .route;
   feet-in = feet-in h;
-  from-one = (searchable-timed h) .from-one;
-  to-million = (searchable-timed h) .to-million;
-  stays = (searchable-timed h) .stays;
-  moves = (searchable-timed h) .moves;
+  from-one = h .timed .from-one;
+  to-million = h .timed .to-million;
+  stays = h .timed .stays;
+  moves = h .timed .moves;
 }
 
 pub accepted-sound : {w : List ℕ} → Accepted w → Sound (netOf w)
