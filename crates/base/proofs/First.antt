@@ -10,11 +10,11 @@ use Rattle.base.specs.First.{first}
 use Rattle.base.proofs.Choice.{split}
 
 module _ (t : ℕ → Bool) where
-  first-here : (n j : ℕ) → t j ≡ true → first t (suc n) j ≡ j
+  pub first-here : (n j : ℕ) → t j ≡ true → first t (suc n) j ≡ j
   unfolding first
   first-here n j e = rw (e, first)
 
-  first-on : (n j : ℕ) → t j ≡ false → first t (suc n) j ≡ first t n (suc j)
+  pub first-on : (n j : ℕ) → t j ≡ false → first t (suc n) j ≡ first t n (suc j)
   unfolding first
   first-on n j e = rw (e, first)
 
