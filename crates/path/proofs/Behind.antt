@@ -8,6 +8,7 @@ use native.Mathlib.Omega.{arith}
 use lib.ListN.{length, getD}
 use Rattle.model.specs.declared.Direction.{Direction}
 use Rattle.model.specs.declared.Leg.{Leg}
+use Rattle.model.specs.Limits.{MOST-ROUNDS}
 use Rattle.model.specs.Back.{near, back, Way, ends, leads}
 use Rattle.model.specs.Bytes.{legSize, sizeOf}
 use Rattle.model.proofs.Way.{way-is, onward-le}
@@ -31,85 +32,85 @@ unfolding parentOf
 none-read none e q = refl
 none-read (some h) e q = let z : _≡_ {A = ℕ} 0 1 = cc in absurd (omega arith)
 
-module _ {d : Direction} {n : ℕ} {w : List (Option Leg)} where
-  first : {k s : ℕ} {gs : List Leg} → Way d n w k s gs → s < n
+module _ {d : Direction} {stops : ℕ} {w : List (Option Leg)} where
+  first : {k s : ℕ} {gs : List Leg} → Way d stops w k s gs → s < stops
   first (ends i e o) = i
   first (leads i e o b) = i
 
-  there : {k s : ℕ} {gs : List Leg} → Way d n w k s gs → getD w (k * n + s) none ≡ none → ⊥
+  there : {k s : ℕ} {gs : List Leg} → Way d stops w k s gs → getD w (k * stops + s) none ≡ none → ⊥
   there (ends i e o) q = let z : _≡_ {A = ℕ} 0 1 = cc in omega arith
   there (leads i e o b) q = let z : _≡_ {A = ℕ} 0 1 = cc in omega arith
 
 -- the way back from stop s in round k is the leg g, and behind it where r leads
-pub data Behind (d : Direction) (n : ℕ) (w : List (Option Leg)) (k s : ℕ) (g : Leg) (r : Step) : Type 0 where
-  last : Done ≡ r → back d n w n k s ≡ g ∷ [] → Behind d n w k s g r
-  on : (j : ℕ) → On j (near d g) ≡ r → j ≤ k → Traced d n w j (near d g)
-      → back d n w n k s ≡ g ∷ back d n w n j (near d g) → Behind d n w k s g r
+pub data Behind (d : Direction) (stops : ℕ) (w : List (Option Leg)) (k s : ℕ) (g : Leg) (r : Step) : Type 0 where
+  last : Done ≡ r → back d stops w stops k s ≡ g ∷ [] → Behind d stops w k s g r
+  on : (j : ℕ) → On j (near d g) ≡ r → j ≤ k → Traced d stops w j (near d g)
+      → back d stops w stops k s ≡ g ∷ back d stops w stops j (near d g) → Behind d stops w k s g r
 
-module _ (d : Direction) (n : ℕ) (w : List (Option Leg)) where
-  behind : {k s : ℕ} {g : Leg} {gs : List Leg} → Way d n w k s gs → length gs ≤ n → getD w (k * n + s) none ≡ some g
-      → Behind d n w k s g (stepOf d k g)
+module _ (d : Direction) (stops : ℕ) (w : List (Option Leg)) where
+  behind : {k s : ℕ} {g : Leg} {gs : List Leg} → Way d stops w k s gs → length gs ≤ stops → getD w (k * stops + s) none ≡ some g
+      → Behind d stops w k s g (stepOf d k g)
   behind {k} {g = g} (ends {g = h} i e o) l q =
       let x : h ≡ g = cc in
-      last (step-done d k g (rw (← x) o)) (way-is d n w (ends i e o) n l ∙ ap (λ y. y ∷ []) x)
+      last (step-done d k g (rw (← x) o)) (way-is d stops w (ends i e o) stops l ∙ ap (λ y. y ∷ []) x)
   behind {k} {g = g} (leads {j = j} {g = h} {gs = gs} i e o b) l q =
       let x : h ≡ g = cc in
-      let y : Way d n w j (near d g) gs = rw (← x) b in
-      let a = way-is d n w y n (omega arith) in
+      let y : Way d stops w j (near d g) gs = rw (← x) b in
+      let a = way-is d stops w y stops (omega arith) in
       on j
       (step-on d k g refl (rw (← x) o))
       (onward-le (h .kind) k j o)
       (record { legs = gs; way = y; short = omega arith })
-      (way-is d n w (leads i e o b) n l ∙ rw (a, x))
+      (way-is d stops w (leads i e o b) stops l ∙ rw (a, x))
 
 -- ---- as a loop asks
-module _ {d : Direction} {n : ℕ} {w : List (Option Leg)} {k s : ℕ} (t : Traced d n w k s) where
-  pub stop-known : s < n
+module _ {d : Direction} {stops : ℕ} {w : List (Option Leg)} {k s : ℕ} (t : Traced d stops w k s) where
+  pub stop-known : s < stops
   stop-known = first (t .way)
 
-  module _ {p : Parent} (e : p ≡ parentOf (getD w (k * n + s) none)) where
+  module _ {p : Parent} (e : p ≡ parentOf (getD w (k * stops + s) none)) where
     pub leg-there : p ≡ Nothing → ⊥
-    leg-there q = there (t .way) (none-read (getD w (k * n + s) none) e q)
+    leg-there q = there (t .way) (none-read (getD w (k * stops + s) none) e q)
 
     -- the bytes left are enough for the leg
-    pub first-size : {g : Leg} → p ≡ By g → legSize (g .kind) ≤ sizeOf (back d n w n k s)
+    pub first-size : {g : Leg} → p ≡ By g → legSize (g .kind) ≤ sizeOf (back d stops w stops k s)
     unfolding sizeOf
-    first-size {g} q = go (behind d n w (t .way) (t .short) (read (getD w (k * n + s) none) e q))
+    first-size {g} q = go (behind d stops w (t .way) (t .short) (read (getD w (k * stops + s) none) e q))
       where
-        go : Behind d n w k s g (stepOf d k g) → legSize (g .kind) ≤ sizeOf (back d n w n k s)
+        go : Behind d stops w k s g (stepOf d k g) → legSize (g .kind) ≤ sizeOf (back d stops w stops k s)
         go (last a b) = rw b (omega arith)
         go (on j a i b c) = rw c (omega arith)
 
     module _ {g : Leg} (q : p ≡ By g) {r : Step} (f : r ≡ stepOf d k g) where
-      then : Behind d n w k s g r
-      then = rw f (behind d n w (t .way) (t .short) (read (getD w (k * n + s) none) e q))
+      then : Behind d stops w k s g r
+      then = rw f (behind d stops w (t .way) (t .short) (read (getD w (k * stops + s) none) e q))
 
-      pub at-end : r ≡ Done → back d n w n k s ≡ g ∷ []
+      pub at-end : r ≡ Done → back d stops w stops k s ≡ g ∷ []
       at-end z = go then
         where
-          go : Behind d n w k s g r → back d n w n k s ≡ g ∷ []
+          go : Behind d stops w k s g r → back d stops w stops k s ≡ g ∷ []
           go (last a b) = b
           go (on j a i b c) = let z : _≡_ {A = ℕ} 0 1 = cc in absurd (omega arith)
 
       module _ {j u : ℕ} (z : r ≡ On j u) where
-        go-on : {C : Type 0} → (j ≤ k → Traced d n w j u → back d n w n k s ≡ g ∷ back d n w n j u → C) → C
+        go-on : {C : Type 0} → (j ≤ k → Traced d stops w j u → back d stops w stops k s ≡ g ∷ back d stops w stops j u → C) → C
         go-on {C} h = go then
           where
-            go : Behind d n w k s g r → C
+            go : Behind d stops w k s g r → C
             go (last a b) = let z : _≡_ {A = ℕ} 0 1 = cc in absurd (omega arith)
             go (on i a l b c) =
                 let x : i ≡ j = cc in
                 let y : near d g ≡ u = cc in
                 h (omega arith) (rw (← x, ← y) b) (rw (← x, ← y) c)
 
-        pub step-traced : Traced d n w j u
+        pub step-traced : Traced d stops w j u
         step-traced = go-on (λ a b c. b)
 
-        pub step-early : k < 15 → j < 15
+        pub step-early : k < MOST-ROUNDS → j < MOST-ROUNDS
         step-early h = go-on (λ a b c. omega arith)
 
-        pub step-back : back d n w n k s ≡ g ∷ back d n w n j u
+        pub step-back : back d stops w stops k s ≡ g ∷ back d stops w stops j u
         step-back = go-on (λ a b c. c)
 
-        pub fewer : length (back d n w n j u) < length (back d n w n k s)
+        pub fewer : length (back d stops w stops j u) < length (back d stops w stops k s)
         fewer = rw step-back (omega arith)

@@ -11,6 +11,7 @@ use Rattle.model.specs.declared.Direction.{Direction}
 use Rattle.model.specs.declared.Leg.{Leg}
 use Rattle.model.specs.declared.LegType.{LegType}
 use Rattle.model.specs.declared.LegType.the-variants.{Transit, Transfer, Walk}
+use Rattle.model.specs.Limits.{MOST-ROUNDS}
 use Rattle.model.specs.Back.{back}
 use Rattle.model.specs.Bytes.{legSize, sizeOf}
 use Rattle.model.proofs.Way.{way-is}
@@ -35,16 +36,16 @@ unfolding sizeOf
 legs-size [] = omega arith
 legs-size (g ∷ gs) = omega (arith, most-size (g .kind), legs-size gs)
 
-pub record Counted (d : Direction) (n : ℕ) (w : List (Option Leg)) (k₀ s₀ k s size : ℕ) : Type 0 where
-  pub traced : Traced d n w k s
-  pub early : k < 15
-  pub small : sizeOf (back d n w n k₀ s₀) ≤ 86_016
-  pub rest : size + sizeOf (back d n w n k s) ≡ sizeOf (back d n w n k₀ s₀)
+pub record Counted (d : Direction) (stops : ℕ) (w : List (Option Leg)) (k₀ s₀ k s size : ℕ) : Type 0 where
+  pub traced : Traced d stops w k s
+  pub early : k < MOST-ROUNDS
+  pub small : sizeOf (back d stops w stops k₀ s₀) ≤ 86_016
+  pub rest : size + sizeOf (back d stops w stops k s) ≡ sizeOf (back d stops w stops k₀ s₀)
 
-pub counted-none : {d : Direction} {n m : ℕ} {x : List ℕ} {w : List (Option Leg)} {k s : ℕ}
-    → Words n m x → Traced d n w k s → k < 15 → Counted d n w k s k s 0
-counted-none {d} {n} {w = w} h t l =
-    let e = way-is d n w (t .way) n (t .short) in
+pub counted-none : {d : Direction} {stops routes : ℕ} {ws : List ℕ} {w : List (Option Leg)} {k s : ℕ}
+    → Words stops routes ws → Traced d stops w k s → k < MOST-ROUNDS → Counted d stops w k s k s 0
+counted-none {d} {stops} {w = w} h t l =
+    let e = way-is d stops w (t .way) stops (t .short) in
     record {
       traced = t;
       early = l;
@@ -52,18 +53,18 @@ counted-none {d} {n} {w = w} h t l =
       rest = zero-add _;
     }
 
-module _ {d : Direction} {n : ℕ} {w : List (Option Leg)} {k₀ s₀ k s size : ℕ} (h : Counted d n w k₀ s₀ k s size)
-    {p : Parent} (e : p ≡ parentOf (getD w (k * n + s) none)) {g : Leg} (q : p ≡ By g)
+module _ {d : Direction} {stops : ℕ} {w : List (Option Leg)} {k₀ s₀ k s size : ℕ} (h : Counted d stops w k₀ s₀ k s size)
+    {p : Parent} (e : p ≡ parentOf (getD w (k * stops + s) none)) {g : Leg} (q : p ≡ By g)
     {a : ℕ} (v : a ≡ legSize (g .kind)) where
   pub size-fits : size + a < 18_446_744_073_709_551_616
   size-fits = omega (arith, h .rest, h .small, first-size (h .traced) e q)
 
   module _ {r : Step} (f : r ≡ stepOf d k g) where
-    pub counted-on : {j u : ℕ} → r ≡ On j u → Counted d n w k₀ s₀ j u (size + a)
+    pub counted-on : {j u : ℕ} → r ≡ On j u → Counted d stops w k₀ s₀ j u (size + a)
     unfolding sizeOf
     counted-on {j} {u} z =
-        let rest = back d n w n j u in
-        let b : sizeOf (back d n w n k s) ≡ legSize (g .kind) + sizeOf rest =
+        let rest = back d stops w stops j u in
+        let b : sizeOf (back d stops w stops k s) ≡ legSize (g .kind) + sizeOf rest =
         ap sizeOf (step-back (h .traced) e q f z) in
         record {
           traced = step-traced (h .traced) e q f z;
@@ -72,8 +73,8 @@ module _ {d : Direction} {n : ℕ} {w : List (Option Leg)} {k₀ s₀ k s size :
           rest = omega (arith, h .rest, b);
         }
 
-    pub counted-all : r ≡ Done → size + a ≡ sizeOf (back d n w n k₀ s₀)
+    pub counted-all : r ≡ Done → size + a ≡ sizeOf (back d stops w stops k₀ s₀)
     unfolding sizeOf
     counted-all z =
-        let b : sizeOf (back d n w n k s) ≡ legSize (g .kind) + 0 = ap sizeOf (at-end (h .traced) e q f z) in
+        let b : sizeOf (back d stops w stops k s) ≡ legSize (g .kind) + 0 = ap sizeOf (at-end (h .traced) e q f z) in
         omega (arith, h .rest, b)

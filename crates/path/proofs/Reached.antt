@@ -15,15 +15,15 @@ use Rattle.model.proofs.Search.{Reached}
 use Rattle.model.proofs.Way.{way-is}
 use Rattle.path.specs.Traced.{Traced}
 
-pub reached-traced : (n : Net) (q : Task) {k : ℕ} {w : List (Option Leg)} {g : Target} → Reached n q k w g
-    → Traced (q .direction) (n .stops) w (g .round) (g .stop)
+pub reached-traced : (n : Net) (q : Task) {k : ℕ} {w : List (Option Leg)} {aimed : Target} → Reached n q k w aimed
+    → Traced (q .direction) (n .stops) w (aimed .round) (aimed .stop)
 reached-traced n q h = record { legs = h .good .legs; way = h .good .way; short = h .short }
 
 -- so 11, "a chosen stop but no leg", is never given
-pub some-leg : {d : Direction} {n : ℕ} {w : List (Option Leg)} {k s : ℕ} → Traced d n w k s
-    → 0 < length (back d n w n k s)
-some-leg {d} {n} {w} t = rw (way-is d n w (t .way) n (t .short)) (go (t .way))
+pub some-leg : {d : Direction} {stops : ℕ} {w : List (Option Leg)} {k s : ℕ} → Traced d stops w k s
+    → 0 < length (back d stops w stops k s)
+some-leg {d} {stops} {w} t = rw (way-is d stops w (t .way) stops (t .short)) (go (t .way))
   where
-    go : {k s : ℕ} {gs : List Leg} → Way d n w k s gs → 0 < length gs
+    go : {k s : ℕ} {gs : List Leg} → Way d stops w k s gs → 0 < length gs
     go (ends i e o) = omega arith
     go (leads i e o b) = omega arith

@@ -10,6 +10,7 @@ use lib.ListN.{length, getD, drop}
 use Rattle.model.specs.declared.Direction.{Direction}
 use Rattle.model.specs.declared.Direction.the-variants.{Departure, Arrival}
 use Rattle.model.specs.declared.Leg.{Leg}
+use Rattle.model.specs.Limits.{MOST-ROUNDS}
 use Rattle.model.specs.Back.{back, inOrder}
 use Rattle.model.specs.Bytes.{writeLeg, write, legSize, sizeOf}
 use Rattle.allocator.specs.declared.Parent.{Parent}
@@ -25,31 +26,32 @@ use Rattle.path.proofs.Order.{Left, left-departure, left-arrival, all-t
 
 -- the way back began at stop s₀ in round k₀, with b₀ in the buffer; now it is at stop s in round k, b is in the buffer,
 -- and the legs that are left take the bytes from a up to e
-pub record Writing (d : Direction) (n : ℕ) (w : List (Option Leg)) (k₀ s₀ : ℕ) (b₀ : List ℕ) (k s a e : ℕ)
+pub record Writing (d : Direction) (stops : ℕ) (w : List (Option Leg)) (k₀ s₀ : ℕ) (b₀ : List ℕ) (k s a e : ℕ)
     (b : List ℕ) : Type 0 where
-  pub traced : Traced d n w k s
-  pub early : k < 15
+  pub traced : Traced d stops w k s
+  pub early : k < MOST-ROUNDS
   pub same : length b ≡ length b₀
-  pub place : a + sizeOf (back d n w n k s) ≡ e
+  pub place : a + sizeOf (back d stops w stops k s) ≡ e
   pub room : e ≤ length b
-  pub rest : withBytes b a (write (inOrder d (back d n w n k s))) ≡ withBytes b₀ 0 (write (inOrder d (back d n w n k₀ s₀)))
+  pub rest : withBytes b a (write (inOrder d (back d stops w stops k s))) ≡ withBytes b₀ 0 (write (inOrder d (back d stops w stops k₀ s₀)))
 
-pub writing-none : {d : Direction} {n : ℕ} {w : List (Option Leg)} {k s size : ℕ} {b : List ℕ}
-    → Traced d n w k s → k < 15 → size ≡ sizeOf (back d n w n k s) → size ≤ length b → Writing d n w k s b k s 0 size b
+pub writing-none : {d : Direction} {stops : ℕ} {w : List (Option Leg)} {k s size : ℕ} {b : List ℕ}
+    → Traced d stops w k s → k < MOST-ROUNDS → size ≡ sizeOf (back d stops w stops k s) → size ≤ length b
+    → Writing d stops w k s b k s 0 size b
 writing-none t l e h =
     record { traced = t; early = l; same = refl; place = zero-add _ ∙ sym e; room = h; rest = refl }
 
-module _ {d : Direction} {n : ℕ} {w : List (Option Leg)} {k₀ s₀ : ℕ} {b₀ : List ℕ} {k s a e : ℕ} {b : List ℕ}
-    (h : Writing d n w k₀ s₀ b₀ k s a e b)
-    {p : Parent} (i : p ≡ parentOf (getD w (k * n + s) none)) {g : Leg} (q : p ≡ By g) where
+module _ {d : Direction} {stops : ℕ} {w : List (Option Leg)} {k₀ s₀ : ℕ} {b₀ : List ℕ} {k s a e : ℕ} {b : List ℕ}
+    (h : Writing d stops w k₀ s₀ b₀ k s a e b)
+    {p : Parent} (i : p ≡ parentOf (getD w (k * stops + s) none)) {g : Leg} (q : p ≡ By g) where
   -- there is room for the leg
   pub leg-fits : a + legSize (g .kind) ≤ e
   leg-fits = omega (arith, h .place, first-size (h .traced) i q)
 
   -- the leg is written, and behind it the way back goes on or ends: in either direction
   module _ {r : Step} (f : r ≡ stepOf d k g) {y : List ℕ} {a′ e′ : ℕ} where
-    legs-left : {j u : ℕ} → r ≡ On j u → Left d g (back d n w n j u) b a y a′ e′ → e′ ≤ e
-        → Writing d n w k₀ s₀ b₀ j u a′ e′ y
+    legs-left : {j u : ℕ} → r ≡ On j u → Left d g (back d stops w stops j u) b a y a′ e′ → e′ ≤ e
+        → Writing d stops w k₀ s₀ b₀ j u a′ e′ y
     legs-left {j} {u} z x v =
         let c = step-back (h .traced) i q f z in
         record {
@@ -61,67 +63,67 @@ module _ {d : Direction} {n : ℕ} {w : List (Option Leg)} {k₀ s₀ : ℕ} {b�
           rest = x .rest ∙ ap (λ o. withBytes b a (write (inOrder d o))) (sym c) ∙ h .rest;
         }
 
-    none-left : r ≡ Done → Left d g [] b a y a′ e′ → {size : ℕ} → size ≡ sizeOf (back d n w n k₀ s₀)
-        → y ≡ write (inOrder d (back d n w n k₀ s₀)) ++ drop size b₀
+    none-left : r ≡ Done → Left d g [] b a y a′ e′ → {size : ℕ} → size ≡ sizeOf (back d stops w stops k₀ s₀)
+        → y ≡ write (inOrder d (back d stops w stops k₀ s₀)) ++ drop size b₀
     none-left z x v =
         let c = at-end (h .traced) i q f z in
         all-there x ∙ ap (λ o. withBytes b a (write (inOrder d o))) (sym c) ∙ h .rest ∙ at-front d _ b₀ v
 
 -- ---- a departure search: the leg ends at e
-module _ {n : ℕ} {w : List (Option Leg)} {k₀ s₀ : ℕ} {b₀ : List ℕ} {k s e : ℕ} {b : List ℕ}
-    (h : Writing Departure n w k₀ s₀ b₀ k s 0 e b)
-    {p : Parent} (i : p ≡ parentOf (getD w (k * n + s) none)) {g : Leg} (q : p ≡ By g)
+module _ {stops : ℕ} {w : List (Option Leg)} {k₀ s₀ : ℕ} {b₀ : List ℕ} {k s e : ℕ} {b : List ℕ}
+    (h : Writing Departure stops w k₀ s₀ b₀ k s 0 e b)
+    {p : Parent} (i : p ≡ parentOf (getD w (k * stops + s) none)) {g : Leg} (q : p ≡ By g)
   where
     pub before-fits : legSize (g .kind) ≤ e
     before-fits = omega (arith, leg-fits h i q)
 
     module _ (x : ℕ) (l : x + legSize (g .kind) ≡ e) {y : List ℕ} (v : y ≡ withBytes b x (writeLeg g)) where
-      before : (gs : List Leg) → back Departure n w n k s ≡ g ∷ gs → Left Departure g gs b 0 y 0 x
+      before : (gs : List Leg) → back Departure stops w stops k s ≡ g ∷ gs → Left Departure g gs b 0 y 0 x
       unfolding sizeOf
       before gs z =
-          let c : sizeOf (back Departure n w n k s) ≡ legSize (g .kind) + sizeOf gs = ap sizeOf z in
+          let c : sizeOf (back Departure stops w stops k s) ≡ legSize (g .kind) + sizeOf gs = ap sizeOf z in
           rw v (left-departure g gs b 0 (omega (arith, h .place, h .room, c)) x (omega (arith, h .place, c)))
 
       module _ {r : Step} (f : r ≡ stepOf Departure k g) where
-        pub before-on : {j u : ℕ} → r ≡ On j u → Writing Departure n w k₀ s₀ b₀ j u 0 x y
+        pub before-on : {j u : ℕ} → r ≡ On j u → Writing Departure stops w k₀ s₀ b₀ j u 0 x y
         before-on z = legs-left h i q f z (before _ (step-back (h .traced) i q f z)) (omega arith)
 
-        pub before-all : r ≡ Done → {size : ℕ} → size ≡ sizeOf (back Departure n w n k₀ s₀)
-            → y ≡ write (inOrder Departure (back Departure n w n k₀ s₀)) ++ drop size b₀
+        pub before-all : r ≡ Done → {size : ℕ} → size ≡ sizeOf (back Departure stops w stops k₀ s₀)
+            → y ≡ write (inOrder Departure (back Departure stops w stops k₀ s₀)) ++ drop size b₀
         before-all z = none-left h i q f z (before [] (at-end (h .traced) i q f z))
 
 -- ---- an arrival search: the leg starts at a
-module _ {n : ℕ} {w : List (Option Leg)} {k₀ s₀ : ℕ} {b₀ : List ℕ} {k s a e : ℕ} {b : List ℕ}
-    (h : Writing Arrival n w k₀ s₀ b₀ k s a e b)
-    {p : Parent} (i : p ≡ parentOf (getD w (k * n + s) none)) {g : Leg} (q : p ≡ By g)
+module _ {stops : ℕ} {w : List (Option Leg)} {k₀ s₀ : ℕ} {b₀ : List ℕ} {k s a e : ℕ} {b : List ℕ}
+    (h : Writing Arrival stops w k₀ s₀ b₀ k s a e b)
+    {p : Parent} (i : p ≡ parentOf (getD w (k * stops + s) none)) {g : Leg} (q : p ≡ By g)
   where
     pub after-fits : a + legSize (g .kind) ≤ length b
     after-fits = omega (arith, leg-fits h i q, h .room)
 
     module _ {x : ℕ} (l : x ≡ a + legSize (g .kind)) {y : List ℕ} (v : y ≡ withBytes b a (writeLeg g)) where
-      after : (gs : List Leg) → back Arrival n w n k s ≡ g ∷ gs → Left Arrival g gs b a y x e
+      after : (gs : List Leg) → back Arrival stops w stops k s ≡ g ∷ gs → Left Arrival g gs b a y x e
       unfolding sizeOf
       after gs z =
-          let c : sizeOf (back Arrival n w n k s) ≡ legSize (g .kind) + sizeOf gs = ap sizeOf z in
+          let c : sizeOf (back Arrival stops w stops k s) ≡ legSize (g .kind) + sizeOf gs = ap sizeOf z in
           rw v (left-arrival g gs b a (omega (arith, h .place, h .room, c)) x l (omega (arith, h .place, c)))
 
       module _ {r : Step} (f : r ≡ stepOf Arrival k g) where
-        pub after-on : {j u : ℕ} → r ≡ On j u → Writing Arrival n w k₀ s₀ b₀ j u x e y
+        pub after-on : {j u : ℕ} → r ≡ On j u → Writing Arrival stops w k₀ s₀ b₀ j u x e y
         after-on z = legs-left h i q f z (after _ (step-back (h .traced) i q f z)) (omega arith)
 
-        pub after-all : r ≡ Done → {size : ℕ} → size ≡ sizeOf (back Arrival n w n k₀ s₀)
-            → y ≡ write (inOrder Arrival (back Arrival n w n k₀ s₀)) ++ drop size b₀
+        pub after-all : r ≡ Done → {size : ℕ} → size ≡ sizeOf (back Arrival stops w stops k₀ s₀)
+            → y ≡ write (inOrder Arrival (back Arrival stops w stops k₀ s₀)) ++ drop size b₀
         after-all z = none-left h i q f z (after [] (at-end (h .traced) i q f z))
 
 -- ---- the direction of the search is c
-module _ {d c : Direction} (f : d ≡ c) {n : ℕ} {w : List (Option Leg)} {k s : ℕ} where
-  pub traced-as : Traced d n w k s → Traced c n w k s
+module _ {d c : Direction} (f : d ≡ c) {stops : ℕ} {w : List (Option Leg)} {k s : ℕ} where
+  pub traced-as : Traced d stops w k s → Traced c stops w k s
   traced-as h = rw (← f) h
 
-module _ {d c : Direction} (f : d ≡ c) (n : ℕ) (w : List (Option Leg)) (k s : ℕ) where
-  pub size-as : {size : ℕ} → size ≡ sizeOf (back d n w n k s) → size ≡ sizeOf (back c n w n k s)
+module _ {d c : Direction} (f : d ≡ c) (stops : ℕ) (w : List (Option Leg)) (k s : ℕ) where
+  pub size-as : {size : ℕ} → size ≡ sizeOf (back d stops w stops k s) → size ≡ sizeOf (back c stops w stops k s)
   size-as h = rw (← f) h
 
-  pub written-as : (o : List ℕ) {y : List ℕ} → y ≡ write (inOrder c (back c n w n k s)) ++ o
-      → y ≡ write (inOrder d (back d n w n k s)) ++ o
+  pub written-as : (o : List ℕ) {y : List ℕ} → y ≡ write (inOrder c (back c stops w stops k s)) ++ o
+      → y ≡ write (inOrder d (back d stops w stops k s)) ++ o
   written-as o h = rw f h

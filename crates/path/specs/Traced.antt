@@ -1,4 +1,4 @@
--- The way back from stop s in round k leads through the parents w to its end: n stops are enough for it.
+-- The way back from stop s in round k leads through the parents w to its end: as many legs as there are stops are enough for it.
 use Prim.Native.Nat.{ℕ, _≤_}
 use mathlib.Core.List.{List}
 use mathlib.Core.Option.{Option}
@@ -7,7 +7,7 @@ use Rattle.model.specs.declared.Direction.{Direction}
 use Rattle.model.specs.declared.Leg.{Leg}
 use Rattle.model.specs.Back.{Way}
 
-pub record Traced (d : Direction) (n : ℕ) (w : List (Option Leg)) (k s : ℕ) : Type 0 where
+pub record Traced (d : Direction) (stops : ℕ) (w : List (Option Leg)) (k s : ℕ) : Type 0 where
   pub legs : List Leg
-  pub way : Way d n w k s legs
-  pub short : length legs ≤ n
+  pub way : Way d stops w k s legs
+  pub short : length legs ≤ stops

@@ -9,6 +9,7 @@ ghost use mathlib.Core.Path.{_≡_};
 ghost use Prim.Native.Nat.{_+_, _≤_, _<_};
 ghost use lib.ListN.{length, drop};
 ghost use Rattle.model.specs.declared.Direction.the-variants.{Departure as Departing, Arrival as Arriving};
+ghost use Rattle.model.specs.Limits.{MOST-ROUNDS};
 ghost use Rattle.model.specs.Back.{near as nearSide, back, inOrder};
 ghost use Rattle.model.specs.Bytes.{writeLeg, write, legSize, sizeOf};
 ghost use Rattle.allocator.specs.Layout.{Words, parentsOf};
@@ -57,17 +58,17 @@ fn step_back(d: Direction, k: u32, g: Leg) -> Step
 }
 
 // How many bytes the legs of the way back take.
-pub fn size_back(words: &[u32], n: u32, m: u32, d: Direction, k: u32, s: u32) -> usize
-    requires { ⌜ Words n m (now words) ⌝ }
-    requires { ⌜ Traced d n (parentsOf n m (now words)) k s ⌝ }
-    requires { ⌜ k < 15 ⌝ }
-    ensures { λ r. ⌜ r ≡ sizeOf (back d n (parentsOf n m (now (words .entry))) n k s) ⌝ }
+pub fn size_back(words: &[u32], stops: u32, routes: u32, d: Direction, k: u32, s: u32) -> usize
+    requires { ⌜ Words stops routes (now words) ⌝ }
+    requires { ⌜ Traced d stops (parentsOf stops routes (now words)) k s ⌝ }
+    requires { ⌜ k < MOST-ROUNDS ⌝ }
+    ensures { λ r. ⌜ r ≡ sizeOf (back d stops (parentsOf stops routes (now (words .entry))) stops k s) ⌝ }
 {
     let mut round = k;
     let mut stop = s;
     let mut size = 0;
     loop {
-        let parent = allocator::parent_at(words, n, m, round, stop);
+        let parent = allocator::parent_at(words, stops, routes, round, stop);
         // there always is one
         let Parent::Leg(g) = parent else {
             return size;
@@ -108,26 +109,26 @@ fn write_after(journey: &mut [u8], at: usize, g: Leg) -> usize
 fn backtrack_departure(
     words: &[u32],
     journey: &mut [u8],
-    n: u32,
-    m: u32,
+    stops: u32,
+    routes: u32,
     k: u32,
     s: u32,
     size: usize,
 )
-    requires { ⌜ Words n m (now words) ⌝ }
-    requires { ⌜ Traced Departing n (parentsOf n m (now words)) k s ⌝ }
-    requires { ⌜ k < 15 ⌝ }
-    requires { ⌜ size ≡ sizeOf (back Departing n (parentsOf n m (now words)) n k s) ⌝ }
+    requires { ⌜ Words stops routes (now words) ⌝ }
+    requires { ⌜ Traced Departing stops (parentsOf stops routes (now words)) k s ⌝ }
+    requires { ⌜ k < MOST-ROUNDS ⌝ }
+    requires { ⌜ size ≡ sizeOf (back Departing stops (parentsOf stops routes (now words)) stops k s) ⌝ }
     requires { ⌜ size ≤ length (now journey) ⌝ }
     ensures { λ _. ⌜ now (journey .exit)
-        ≡ write (inOrder Departing (back Departing n (parentsOf n m (now (words .entry))) n k s))
+        ≡ write (inOrder Departing (back Departing stops (parentsOf stops routes (now (words .entry))) stops k s))
         ++ drop size (now (journey .entry)) ⌝ }
 {
     let mut round = k;
     let mut stop = s;
     let mut at = size;
     loop {
-        let parent = allocator::parent_at(words, n, m, round, stop);
+        let parent = allocator::parent_at(words, stops, routes, round, stop);
         // there always is one
         let Parent::Leg(g) = parent else {
             return;
@@ -143,21 +144,29 @@ fn backtrack_departure(
 }
 
 // An arrival search finds the legs in riding order.
-fn backtrack_arrival(words: &[u32], journey: &mut [u8], n: u32, m: u32, k: u32, s: u32, size: usize)
-    requires { ⌜ Words n m (now words) ⌝ }
-    requires { ⌜ Traced Arriving n (parentsOf n m (now words)) k s ⌝ }
-    requires { ⌜ k < 15 ⌝ }
-    requires { ⌜ size ≡ sizeOf (back Arriving n (parentsOf n m (now words)) n k s) ⌝ }
+fn backtrack_arrival(
+    words: &[u32],
+    journey: &mut [u8],
+    stops: u32,
+    routes: u32,
+    k: u32,
+    s: u32,
+    size: usize,
+)
+    requires { ⌜ Words stops routes (now words) ⌝ }
+    requires { ⌜ Traced Arriving stops (parentsOf stops routes (now words)) k s ⌝ }
+    requires { ⌜ k < MOST-ROUNDS ⌝ }
+    requires { ⌜ size ≡ sizeOf (back Arriving stops (parentsOf stops routes (now words)) stops k s) ⌝ }
     requires { ⌜ size ≤ length (now journey) ⌝ }
     ensures { λ _. ⌜ now (journey .exit)
-        ≡ write (inOrder Arriving (back Arriving n (parentsOf n m (now (words .entry))) n k s))
+        ≡ write (inOrder Arriving (back Arriving stops (parentsOf stops routes (now (words .entry))) stops k s))
         ++ drop size (now (journey .entry)) ⌝ }
 {
     let mut round = k;
     let mut stop = s;
     let mut at = 0;
     loop {
-        let parent = allocator::parent_at(words, n, m, round, stop);
+        let parent = allocator::parent_at(words, stops, routes, round, stop);
         // there always is one
         let Parent::Leg(g) = parent else {
             return;
@@ -176,29 +185,29 @@ fn backtrack_arrival(words: &[u32], journey: &mut [u8], n: u32, m: u32, k: u32, 
 pub fn backtrack(
     words: &[u32],
     journey: &mut [u8],
-    n: u32,
-    m: u32,
+    stops: u32,
+    routes: u32,
     d: Direction,
     k: u32,
     s: u32,
     size: usize,
 )
-    requires { ⌜ Words n m (now words) ⌝ }
-    requires { ⌜ Traced d n (parentsOf n m (now words)) k s ⌝ }
-    requires { ⌜ k < 15 ⌝ }
-    requires { ⌜ size ≡ sizeOf (back d n (parentsOf n m (now words)) n k s) ⌝ }
+    requires { ⌜ Words stops routes (now words) ⌝ }
+    requires { ⌜ Traced d stops (parentsOf stops routes (now words)) k s ⌝ }
+    requires { ⌜ k < MOST-ROUNDS ⌝ }
+    requires { ⌜ size ≡ sizeOf (back d stops (parentsOf stops routes (now words)) stops k s) ⌝ }
     requires { ⌜ size ≤ length (now journey) ⌝ }
     ensures { λ _. ⌜ now (journey .exit)
-        ≡ write (inOrder d (back d n (parentsOf n m (now (words .entry))) n k s))
+        ≡ write (inOrder d (back d stops (parentsOf stops routes (now (words .entry))) stops k s))
         ++ drop size (now (journey .entry)) ⌝ }
 {
     match d {
         Direction::Departure => {
-            backtrack_departure(words, journey, n, m, k, s, size);
+            backtrack_departure(words, journey, stops, routes, k, s, size);
             return;
         }
         Direction::Arrival => {
-            backtrack_arrival(words, journey, n, m, k, s, size);
+            backtrack_arrival(words, journey, stops, routes, k, s, size);
             return;
         }
     }

@@ -11,12 +11,12 @@ use Rattle.path.proofs.backtrack_arrival.Statement.{statement}
 use Rattle.path.proofs.backtrack_arrival.Tie as tie
 
 abbrev Inv-loop : tie.InvT-loop
-Inv-loop words journey₀ n m k s size round₀ stop₀ at₀ journey round stop at =
-    Writing Arrival n (parentsOf n m words) k s journey₀ round stop at size journey
+Inv-loop words journey₀ stops routes k s size round₀ stop₀ at₀ journey round stop at =
+    Writing Arrival stops (parentsOf stops routes words) k s journey₀ round stop at size journey
 
 abbrev μ-loop : tie.MeasureT-loop
-μ-loop words journey₀ n m k s size round₀ stop₀ at₀ journey round stop at =
-    length (back Arrival n (parentsOf n m words) n round stop)
+μ-loop words journey₀ stops routes k s size round₀ stop₀ at₀ journey round stop at =
+    length (back Arrival stops (parentsOf stops routes words) stops round stop)
 
 loop-holds : tie.Need-loop-holds Inv-loop μ-loop
 loop-holds c = search (needs, writing-none)

@@ -11,12 +11,12 @@ use Rattle.path.proofs.backtrack_departure.Statement.{statement}
 use Rattle.path.proofs.backtrack_departure.Tie as tie
 
 abbrev Inv-loop : tie.InvT-loop
-Inv-loop words journey₀ n m k s size round₀ stop₀ at₀ journey round stop at =
-    Writing Departure n (parentsOf n m words) k s journey₀ round stop 0 at journey
+Inv-loop words journey₀ stops routes k s size round₀ stop₀ at₀ journey round stop at =
+    Writing Departure stops (parentsOf stops routes words) k s journey₀ round stop 0 at journey
 
 abbrev μ-loop : tie.MeasureT-loop
-μ-loop words journey₀ n m k s size round₀ stop₀ at₀ journey round stop at =
-    length (back Departure n (parentsOf n m words) n round stop)
+μ-loop words journey₀ stops routes k s size round₀ stop₀ at₀ journey round stop at =
+    length (back Departure stops (parentsOf stops routes words) stops round stop)
 
 loop-holds : tie.Need-loop-holds Inv-loop μ-loop
 loop-holds c = search (needs, writing-none)

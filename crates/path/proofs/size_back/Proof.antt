@@ -10,10 +10,10 @@ use Rattle.path.proofs.size_back.Statement.{statement}
 use Rattle.path.proofs.size_back.Tie as tie
 
 abbrev Inv-loop : tie.InvT-loop
-Inv-loop words n m d k s round₀ stop₀ size₀ round stop size = Counted d n (parentsOf n m words) k s round stop size
+Inv-loop words stops routes d k s round₀ stop₀ size₀ round stop size = Counted d stops (parentsOf stops routes words) k s round stop size
 
 abbrev μ-loop : tie.MeasureT-loop
-μ-loop words n m d k s round₀ stop₀ size₀ round stop size = length (back d n (parentsOf n m words) n round stop)
+μ-loop words stops routes d k s round₀ stop₀ size₀ round stop size = length (back d stops (parentsOf stops routes words) stops round stop)
 
 loop-holds : tie.Need-loop-holds Inv-loop μ-loop
 loop-holds c = search (needs, counted-none)
