@@ -11,23 +11,32 @@ use model::Target;
 
 // 10 where no stop is chosen; 12 where the journey is longer than its buffer, which stays as it was; else 0, and the
 // journey stands in the first bytes.
-pub fn reply(words: &[u32], journey: &mut [u8], n: u32, m: u32, d: Direction, g: Target) -> Answer
-    requires { ⌜ Words n m (now words) ⌝ }
-    requires { ⌜ Chosen d n (parentsOf n m (now words)) g ⌝ }
-    ensures { λ r. ⌜ r ≡ replyOf (length (now (journey .entry))) g (legsBack d n (parentsOf n m (now (words .entry))) g) ⌝ }
-    ensures { λ r. ⌜ now (journey .exit) ≡ written r (legsBack d n (parentsOf n m (now (words .entry))) g) (now (journey .entry)) ⌝ }
+pub fn reply(
+    words: &[u32],
+    journey: &mut [u8],
+    stops: u32,
+    routes: u32,
+    d: Direction,
+    aimed: Target,
+) -> Answer
+    requires { ⌜ Words stops routes (now words) ⌝ }
+    requires { ⌜ Chosen d stops (parentsOf stops routes (now words)) aimed ⌝ }
+    ensures { λ r. ⌜ r
+        ≡ replyOf (length (now (journey .entry))) aimed (legsBack d stops (parentsOf stops routes (now (words .entry))) aimed) ⌝ }
+    ensures { λ r. ⌜ now (journey .exit)
+        ≡ written r (legsBack d stops (parentsOf stops routes (now (words .entry))) aimed) (now (journey .entry)) ⌝ }
 {
-    let t = g.time;
+    let t = aimed.time;
     if t.0 == 0 {
         return Answer::NoRouteFound;
     }
-    let k = g.round;
-    let s = g.stop;
-    let size = path::size_back(words, n, m, d, k, s);
+    let k = aimed.round;
+    let s = aimed.stop;
+    let size = path::size_back(words, stops, routes, d, k, s);
     if journey.len() < size {
         return Answer::TooLong(size);
     }
-    path::backtrack(words, journey, n, m, d, k, s, size);
+    path::backtrack(words, journey, stops, routes, d, k, s, size);
     Answer::Found {
         time: t,
         stop: s,
