@@ -228,7 +228,7 @@ MUTATIONS = [
     ("a result of which only a bound is said", checked_says("r ≤ 5"), True, FUNCTIONS, "check_tables::check leaves open its result"),
     ("a result that is said only on a condition", checked_says("r ≡ 0 → SAID"), True, FUNCTIONS, "check_tables::check leaves open its result"),
     ("a workspace of which only the state is said", state_only, True, FUNCTIONS, "raptor_rounds::search leaves open its result, what it leaves in words, what it leaves in marks"),
-    ("an operation that is told by what it leaves", lambda: sub(LIB, "Does n m (swapped n)", "Does n m (λ _. view n m (now (words .exit)) (now (marks .exit)))"), True, FUNCTIONS, "allocator::swap_labels leaves open what it leaves in words, what it leaves in marks"),
+    ("an operation that is told by what it leaves", lambda: sub(LIB, "Does stops routes (swapped stops)", "Does stops routes (λ _. view stops routes (now (words .exit)) (now (marks .exit)))"), True, FUNCTIONS, "allocator::swap_labels leaves open what it leaves in words, what it leaves in marks"),
     ("a result that is said to be itself", checked_says("r ≡ r"), True, FUNCTIONS, "check_tables::check leaves open its result"),
     ("a result of which nothing is said", nothing_of_the_result, True, FUNCTIONS, "check_tables::check does not say its result"),
     ("an exception that has an equation", listed("LESS", "shared::time_to_walk", "less"), True, FUNCTIONS, "take it off the list"),

@@ -8,18 +8,18 @@ use Rattle.model.specs.Work.{Work}
 use Rattle.allocator.specs.Layout.{Sized, view}
 use Rattle.allocator.specs.Tidy.{TidyParts}
 
--- w′ and m′ are tidy where w and m are
-pub record Kept (s r : ℕ) (w m w′ m′ : List ℕ) : Type 0 where
-  pub tidy : TidyParts s r w m → TidyParts s r w′ m′
+-- ws′ and ms′ are tidy where ws and ms are
+pub record Kept (stops routes : ℕ) (ws ms ws′ ms′ : List ℕ) : Type 0 where
+  pub tidy : TidyParts stops routes ws ms → TidyParts stops routes ws′ ms′
 
--- w and m became v and n, and f says how the state changed: what `Does` of specs/ says, whether or not w and m are tidy
-pub record Became (s r : ℕ) (f : Work → Work) (w m v n : List ℕ) : Type 0 where
-  pub is : view s r v n ≡ f (view s r w m)
-  pub kept : Kept s r w m v n
-  pub sized : Sized s r v n
+-- ws and ms became ws′ and ms′, and f says how the state changed: what `Does` of specs/ says, whether or not ws and ms are tidy
+pub record Became (stops routes : ℕ) (f : Work → Work) (ws ms ws′ ms′ : List ℕ) : Type 0 where
+  pub is : view stops routes ws′ ms′ ≡ f (view stops routes ws ms)
+  pub kept : Kept stops routes ws ms ws′ ms′
+  pub sized : Sized stops routes ws′ ms′
 
-pub does-then : {s r : ℕ} (f g : Work → Work) {w m v n x y : List ℕ} → Became s r f w m v n → Became s r g v n x y
-    → Became s r (λ a. g (f a)) w m x y
+pub does-then : {stops routes : ℕ} (f g : Work → Work) {ws ms ws₁ ms₁ ws′ ms′ : List ℕ} → Became stops routes f ws ms ws₁ ms₁
+    → Became stops routes g ws₁ ms₁ ws′ ms′ → Became stops routes (λ a. g (f a)) ws ms ws′ ms′
 does-then f g p q = record {
   is = q .is ∙ ap g (p .is);
   kept = record { tidy = λ t. q .kept .tidy (p .kept .tidy t) };
@@ -27,7 +27,7 @@ does-then f g p q = record {
 }
 
 -- a change that keeps the lengths
-pub words-sized : {s r : ℕ} {w m v : List ℕ} → Sized s r w m → length v ≡ length w → Sized s r v m
+pub words-sized : {stops routes : ℕ} {ws ms ws′ : List ℕ} → Sized stops routes ws ms → length ws′ ≡ length ws → Sized stops routes ws′ ms
 words-sized z e = record {
   words = record {
     most-stops = z .words .most-stops;
@@ -37,7 +37,7 @@ words-sized z e = record {
   marks = z .marks;
 }
 
-pub marks-sized : {s r : ℕ} {w m n : List ℕ} → Sized s r w m → length n ≡ length m → Sized s r w n
+pub marks-sized : {stops routes : ℕ} {ws ms ms′ : List ℕ} → Sized stops routes ws ms → length ms′ ≡ length ms → Sized stops routes ws ms′
 marks-sized z e = record {
   words = z .words;
   marks = record {

@@ -10,95 +10,99 @@ use Rattle.allocator.specs.Parts.{withPrev, withCurr, withBest, withMark
 use Rattle.allocator.proofs.Sections.{Only, sect-before, sect-behind}
 
 -- ---- a section of the words
-module _ (s r : ℕ) (w v m : List ℕ) (z : Words s r w) where
-  pub change-prev : Only 0 s w v → view s r v m ≡ withPrev (prevOf s r v) (view s r w m)
+module _ (stops routes : ℕ) (ws ws′ ms : List ℕ) (z : Words stops routes ws) where
+  pub change-prev : Only 0 stops ws ws′ → view stops routes ws′ ms ≡ withPrev (prevOf stops routes ws′) (view stops routes ws ms)
   unfolding view prevOf currOf bestOf heldOf activeOf parentsOf withPrev
   change-prev c =
       cc (
-        sect-behind c s s (omega arith) (omega arith),
-        sect-behind c (2 * s) s (omega arith) (omega arith),
-        sect-behind c (3 * s) s (omega arith) (omega arith),
-        sect-behind c (4 * s) r (omega arith) (omega arith),
-        sect-behind c (4 * s + r) (90 * s) (omega arith) (omega arith),
+        sect-behind c stops stops (omega arith) (omega arith),
+        sect-behind c (2 * stops) stops (omega arith) (omega arith),
+        sect-behind c (3 * stops) stops (omega arith) (omega arith),
+        sect-behind c (4 * stops) routes (omega arith) (omega arith),
+        sect-behind c (4 * stops + routes) (90 * stops) (omega arith) (omega arith),
       )
 
-  pub change-curr : Only s s w v → view s r v m ≡ withCurr (currOf s r v) (view s r w m)
+  pub change-curr : Only stops stops ws ws′ → view stops routes ws′ ms ≡ withCurr (currOf stops routes ws′) (view stops routes ws ms)
   unfolding view prevOf currOf bestOf heldOf activeOf parentsOf withCurr
   change-curr c =
       cc (
-        sect-before c 0 s (omega arith) (omega arith),
-        sect-behind c (2 * s) s (omega arith) (omega arith),
-        sect-behind c (3 * s) s (omega arith) (omega arith),
-        sect-behind c (4 * s) r (omega arith) (omega arith),
-        sect-behind c (4 * s + r) (90 * s) (omega arith) (omega arith),
+        sect-before c 0 stops (omega arith) (omega arith),
+        sect-behind c (2 * stops) stops (omega arith) (omega arith),
+        sect-behind c (3 * stops) stops (omega arith) (omega arith),
+        sect-behind c (4 * stops) routes (omega arith) (omega arith),
+        sect-behind c (4 * stops + routes) (90 * stops) (omega arith) (omega arith),
       )
 
-  pub change-best : Only (2 * s) s w v → view s r v m ≡ withBest (bestOf s r v) (view s r w m)
+  pub change-best : Only (2 * stops) stops ws ws′ → view stops routes ws′ ms ≡ withBest (bestOf stops routes ws′) (view stops routes ws ms)
   unfolding view prevOf currOf bestOf heldOf activeOf parentsOf withBest
   change-best c =
       cc (
-        sect-before c 0 s (omega arith) (omega arith),
-        sect-before c s s (omega arith) (omega arith),
-        sect-behind c (3 * s) s (omega arith) (omega arith),
-        sect-behind c (4 * s) r (omega arith) (omega arith),
-        sect-behind c (4 * s + r) (90 * s) (omega arith) (omega arith),
+        sect-before c 0 stops (omega arith) (omega arith),
+        sect-before c stops stops (omega arith) (omega arith),
+        sect-behind c (3 * stops) stops (omega arith) (omega arith),
+        sect-behind c (4 * stops) routes (omega arith) (omega arith),
+        sect-behind c (4 * stops + routes) (90 * stops) (omega arith) (omega arith),
       )
 
-  pub change-held : Only (3 * s) s w v → view s r v m ≡ withHeld (heldOf s r v) (view s r w m)
+  pub change-held : Only (3 * stops) stops ws ws′ → view stops routes ws′ ms ≡ withHeld (heldOf stops routes ws′) (view stops routes ws ms)
   unfolding view prevOf currOf bestOf heldOf activeOf parentsOf withHeld
   change-held c =
       cc (
-        sect-before c 0 s (omega arith) (omega arith),
-        sect-before c s s (omega arith) (omega arith),
-        sect-before c (2 * s) s (omega arith) (omega arith),
-        sect-behind c (4 * s) r (omega arith) (omega arith),
-        sect-behind c (4 * s + r) (90 * s) (omega arith) (omega arith),
+        sect-before c 0 stops (omega arith) (omega arith),
+        sect-before c stops stops (omega arith) (omega arith),
+        sect-before c (2 * stops) stops (omega arith) (omega arith),
+        sect-behind c (4 * stops) routes (omega arith) (omega arith),
+        sect-behind c (4 * stops + routes) (90 * stops) (omega arith) (omega arith),
       )
 
-  pub change-active : Only (4 * s) r w v → view s r v m ≡ withActive (activeOf s r v) (view s r w m)
+  pub change-active : Only (4 * stops) routes ws ws′
+      → view stops routes ws′ ms ≡ withActive (activeOf stops routes ws′) (view stops routes ws ms)
   unfolding view prevOf currOf bestOf heldOf activeOf parentsOf withActive
   change-active c =
       cc (
-        sect-before c 0 s (omega arith) (omega arith),
-        sect-before c s s (omega arith) (omega arith),
-        sect-before c (2 * s) s (omega arith) (omega arith),
-        sect-before c (3 * s) s (omega arith) (omega arith),
-        sect-behind c (4 * s + r) (90 * s) (omega arith) (omega arith),
+        sect-before c 0 stops (omega arith) (omega arith),
+        sect-before c stops stops (omega arith) (omega arith),
+        sect-before c (2 * stops) stops (omega arith) (omega arith),
+        sect-before c (3 * stops) stops (omega arith) (omega arith),
+        sect-behind c (4 * stops + routes) (90 * stops) (omega arith) (omega arith),
       )
 
-  pub change-parents : Only (4 * s + r) (90 * s) w v → view s r v m ≡ withParents (parentsOf s r v) (view s r w m)
+  pub change-parents : Only (4 * stops + routes) (90 * stops) ws ws′
+      → view stops routes ws′ ms ≡ withParents (parentsOf stops routes ws′) (view stops routes ws ms)
   unfolding view prevOf currOf bestOf heldOf activeOf parentsOf withParents
   change-parents c =
       cc (
-        sect-before c 0 s (omega arith) (omega arith),
-        sect-before c s s (omega arith) (omega arith),
-        sect-before c (2 * s) s (omega arith) (omega arith),
-        sect-before c (3 * s) s (omega arith) (omega arith),
-        sect-before c (4 * s) r (omega arith) (omega arith),
+        sect-before c 0 stops (omega arith) (omega arith),
+        sect-before c stops stops (omega arith) (omega arith),
+        sect-before c (2 * stops) stops (omega arith) (omega arith),
+        sect-before c (3 * stops) stops (omega arith) (omega arith),
+        sect-before c (4 * stops) routes (omega arith) (omega arith),
       )
 
 -- ---- a section of the marks
-module _ (s r : ℕ) (w m v : List ℕ) (z : Marks s r m) where
-  pub change-mark : Only 0 (pages s) m v → view s r w v ≡ withMarks (markOf s r v) (view s r w m)
+module _ (stops routes : ℕ) (ws ms ms′ : List ℕ) (z : Marks stops routes ms) where
+  pub change-mark : Only 0 (pages stops) ms ms′ → view stops routes ws ms′ ≡ withMarks (markOf stops routes ms′) (view stops routes ws ms)
   unfolding view markOf heldMarkOf maskOf withMarks
   change-mark c =
       cc (
-        sect-behind c (pages s) (pages s) (omega arith) (omega arith),
-        sect-behind c (2 * pages s) (pages r) (omega arith) (omega arith),
+        sect-behind c (pages stops) (pages stops) (omega arith) (omega arith),
+        sect-behind c (2 * pages stops) (pages routes) (omega arith) (omega arith),
       )
 
-  pub change-held-mark : Only (pages s) (pages s) m v → view s r w v ≡ withHeldMark (heldMarkOf s r v) (view s r w m)
+  pub change-held-mark : Only (pages stops) (pages stops) ms ms′
+      → view stops routes ws ms′ ≡ withHeldMark (heldMarkOf stops routes ms′) (view stops routes ws ms)
   unfolding view markOf heldMarkOf maskOf withHeldMark
   change-held-mark c =
       cc (
-        sect-before c 0 (pages s) (omega arith) (omega arith),
-        sect-behind c (2 * pages s) (pages r) (omega arith) (omega arith),
+        sect-before c 0 (pages stops) (omega arith) (omega arith),
+        sect-behind c (2 * pages stops) (pages routes) (omega arith) (omega arith),
       )
 
-  pub change-mask : Only (2 * pages s) (pages r) m v → view s r w v ≡ withMask (maskOf s r v) (view s r w m)
+  pub change-mask : Only (2 * pages stops) (pages routes) ms ms′
+      → view stops routes ws ms′ ≡ withMask (maskOf stops routes ms′) (view stops routes ws ms)
   unfolding view markOf heldMarkOf maskOf withMask
   change-mask c =
       cc (
-        sect-before c 0 (pages s) (omega arith) (omega arith),
-        sect-before c (pages s) (pages s) (omega arith) (omega arith),
+        sect-before c 0 (pages stops) (omega arith) (omega arith),
+        sect-before c (pages stops) (pages stops) (omega arith) (omega arith),
       )

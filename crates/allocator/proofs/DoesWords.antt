@@ -12,83 +12,88 @@ use Rattle.allocator.proofs.Sections.{Only, only-set, only-whole, sect-
 use Rattle.allocator.proofs.Changes.{change-prev, change-curr, change-best, change-held, change-active}
 use Rattle.allocator.proofs.Became.{Kept, Became, words-sized}
 
-module _ (s r : ℕ) (w m : List ℕ) (z : Sized s r w m) where
+module _ (stops routes : ℕ) (ws ms : List ℕ) (z : Sized stops routes ws ms) where
   -- a change before the parents keeps them tidy
-  rows-kept : {o n : ℕ} {v : List ℕ} → Only o n w v → o + n ≤ 4 * s + r → Kept s r w m v m
+  rows-kept : {start count : ℕ} {ws′ : List ℕ} → Only start count ws ws′ → start + count ≤ 4 * stops + routes
+      → Kept stops routes ws ms ws′ ms
   rows-kept c h =
-      let same = sect-behind c (4 * s + r) (90 * s) h (omega arith) in
-      record { tidy = λ t. record { rows = rw same (t .rows); stops = t .stops; held = t .held; routes = t .routes } }
+      let same = sect-behind c (4 * stops + routes) (90 * stops) h (omega arith) in
+      record { tidy = λ t. record { rows = rw same (t .rows); mark = t .mark; heldMark = t .heldMark; mask = t .mask } }
 
   -- ---- one element
   module _ (i v : ℕ) where
-    pub does-curr : i < s → Became s r (λ x. withCurr (set (x .labels .curr) i v) x) w m (set w (s + i) v) m
+    pub does-curr : i < stops → Became stops routes (λ x. withCurr (set (x .labels .curr) i v) x) ws ms (set ws (stops + i) v) ms
     unfolding view currOf
     does-curr h =
-        let c = only-set s s w i v h in
+        let c = only-set stops stops ws i v h in
         record {
-          is = change-curr s r w (set w (s + i) v) m (z .words) c ∙ rw (set-sect s s w i v h);
+          is = change-curr stops routes ws (set ws (stops + i) v) ms (z .words) c ∙ rw (set-sect stops stops ws i v h);
           kept = rows-kept c (omega arith);
           sized = words-sized z (c .long);
         }
 
-    pub does-best : i < s → Became s r (λ x. withBest (set (x .labels .best) i v) x) w m (set w (2 * s + i) v) m
+    pub does-best : i < stops → Became stops routes (λ x. withBest (set (x .labels .best) i v) x) ws ms (set ws (2 * stops + i) v) ms
     unfolding view bestOf
     does-best h =
-        let c = only-set (2 * s) s w i v h in
+        let c = only-set (2 * stops) stops ws i v h in
         record {
-          is = change-best s r w (set w (2 * s + i) v) m (z .words) c ∙ rw (set-sect (2 * s) s w i v h);
+          is = change-best stops routes ws (set ws (2 * stops + i) v) ms (z .words) c ∙ rw (set-sect (2 * stops) stops ws i v h);
           kept = rows-kept c (omega arith);
           sized = words-sized z (c .long);
         }
 
-    pub does-active : i < r → Became s r (λ x. withActive (set (x .active) i v) x) w m (set w (4 * s + i) v) m
+    pub does-active : i < routes → Became stops routes (λ x. withActive (set (x .active) i v) x) ws ms (set ws (4 * stops + i) v) ms
     unfolding view activeOf
     does-active h =
-        let c = only-set (4 * s) r w i v h in
+        let c = only-set (4 * stops) routes ws i v h in
         record {
-          is = change-active s r w (set w (4 * s + i) v) m (z .words) c ∙ rw (set-sect (4 * s) r w i v h);
+          is = change-active stops routes ws (set ws (4 * stops + i) v) ms (z .words) c ∙ rw (set-sect (4 * stops) routes ws i v h);
           kept = rows-kept c (omega arith);
           sized = words-sized z (c .long);
         }
 
   -- ---- a whole section
   module _ (xs : List ℕ) where
-    pub does-prevs : length xs ≡ s → Became s r (withPrev xs) w m (overlaid 0 xs w) m
+    pub does-prevs : length xs ≡ stops → Became stops routes (withPrev xs) ws ms (overlaid 0 xs ws) ms
     unfolding prevOf
     does-prevs l =
-        let c = only-whole 0 s w xs l (omega arith) in
+        let c = only-whole 0 stops ws xs l (omega arith) in
         record {
-          is = change-prev s r w (overlaid 0 xs w) m (z .words) c ∙ rw (sect-whole-put 0 s w xs l (omega arith));
+          is = change-prev stops routes ws (overlaid 0 xs ws) ms (z .words) c ∙ rw (sect-whole-put 0 stops ws xs l (omega arith));
           kept = rows-kept c (omega arith);
           sized = words-sized z (c .long);
         }
 
-    pub does-currs : length xs ≡ s → Became s r (withCurr xs) w m (overlaid s xs w) m
+    pub does-currs : length xs ≡ stops → Became stops routes (withCurr xs) ws ms (overlaid stops xs ws) ms
     unfolding currOf
     does-currs l =
-        let c = only-whole s s w xs l (omega arith) in
+        let c = only-whole stops stops ws xs l (omega arith) in
         record {
-          is = change-curr s r w (overlaid s xs w) m (z .words) c ∙ rw (sect-whole-put s s w xs l (omega arith));
+          is = change-curr stops routes ws (overlaid stops xs ws) ms (z .words) c ∙ rw (sect-whole-put stops stops ws xs l (omega arith));
           kept = rows-kept c (omega arith);
           sized = words-sized z (c .long);
         }
 
-    pub does-helds : length xs ≡ s → Became s r (withHeld xs) w m (overlaid (3 * s) xs w) m
+    pub does-helds : length xs ≡ stops → Became stops routes (withHeld xs) ws ms (overlaid (3 * stops) xs ws) ms
     unfolding heldOf
     does-helds l =
-        let c = only-whole (3 * s) s w xs l (omega arith) in
+        let c = only-whole (3 * stops) stops ws xs l (omega arith) in
         record {
-          is = change-held s r w (overlaid (3 * s) xs w) m (z .words) c ∙ rw (sect-whole-put (3 * s) s w xs l (omega arith));
+          is =
+              change-held stops routes ws (overlaid (3 * stops) xs ws) ms (z .words) c
+              ∙ rw (sect-whole-put (3 * stops) stops ws xs l (omega arith));
           kept = rows-kept c (omega arith);
           sized = words-sized z (c .long);
         }
 
-    pub does-actives : length xs ≡ r → Became s r (withActive xs) w m (overlaid (4 * s) xs w) m
+    pub does-actives : length xs ≡ routes → Became stops routes (withActive xs) ws ms (overlaid (4 * stops) xs ws) ms
     unfolding activeOf
     does-actives l =
-        let c = only-whole (4 * s) r w xs l (omega arith) in
+        let c = only-whole (4 * stops) routes ws xs l (omega arith) in
         record {
-          is = change-active s r w (overlaid (4 * s) xs w) m (z .words) c ∙ rw (sect-whole-put (4 * s) r w xs l (omega arith));
+          is =
+              change-active stops routes ws (overlaid (4 * stops) xs ws) ms (z .words) c
+              ∙ rw (sect-whole-put (4 * stops) routes ws xs l (omega arith));
           kept = rows-kept c (omega arith);
           sized = words-sized z (c .long);
         }

@@ -25,33 +25,33 @@ use Rattle.allocator.proofs.Sections.{Only, only-set, sect-get, set-sec
 use Rattle.allocator.proofs.Tabulated.{tab-all, tab-set, tab-drop}
 
 -- mark t of the b words from word q on
-pub mark-sect : (q b : ℕ) (m : List ℕ) (t : ℕ) → t < 64 * b → sect q b (withMark m (64 * q + t)) ≡ withMark (sect q b m) t
+pub mark-sect : (q b : ℕ) (ms : List ℕ) (t : ℕ) → t < 64 * b → sect q b (withMark ms (64 * q + t)) ≡ withMark (sect q b ms) t
 unfolding withMark
-mark-sect q b m t h =
+mark-sect q b ms t h =
     let word : (64 * q + t) / 64 ≡ q + t / 64 = omega arith in
     let digit : (64 * q + t) % 64 ≡ t % 64 = omega arith in
     let i : t / 64 < b = omega arith in
-    rw (word, digit, ← sect-get q b m (t / 64) i) (set-sect q b m (t / 64) _ i)
+    rw (word, digit, ← sect-get q b ms (t / 64) i) (set-sect q b ms (t / 64) _ i)
 
-pub only-mark : (q b : ℕ) (m : List ℕ) (t : ℕ) → t < 64 * b → Only q b m (withMark m (64 * q + t))
+pub only-mark : (q b : ℕ) (ms : List ℕ) (t : ℕ) → t < 64 * b → Only q b ms (withMark ms (64 * q + t))
 unfolding withMark
-only-mark q b m t h =
+only-mark q b ms t h =
     let word : (64 * q + t) / 64 ≡ q + t / 64 = omega arith in
-    rw word (only-set q b m (t / 64) _ (omega arith))
+    rw word (only-set q b ms (t / 64) _ (omega arith))
 
 -- ---- a new mark
-module _ (n : ℕ) (x : List ℕ) (t : ℕ) (in-range : t < n) (room : n ≤ 64 * length x) where
-  pub flags-more : flags n (withMark x t) ≡ set (flags n x) t true
+module _ (count : ℕ) (x : List ℕ) (t : ℕ) (in-range : t < count) (room : count ≤ 64 * length x) where
+  pub flags-more : flags count (withMark x t) ≡ set (flags count x) t true
   unfolding flags
   flags-more =
-      tab-set (marked x) (marked (withMark x t)) n t true in-range (mark-same x t (omega arith))
+      tab-set (marked x) (marked (withMark x t)) count t true in-range (mark-same x t (omega arith))
       (λ k h other. mark-other x t k (omega arith) other)
 
-  pub spare-more : Spare n x → Spare n (withMark x t)
+  pub spare-more : Spare count x → Spare count (withMark x t)
   unfolding withMark
   spare-more z = record { clear = clear; fits = fits }
     where
-      clear : (k : ℕ) → n ≤ k → k < 64 * length (withMark x t) → marked (withMark x t) k ≡ false
+      clear : (k : ℕ) → count ≤ k → k < 64 * length (withMark x t) → marked (withMark x t) k ≡ false
       clear k g l = mark-other x t k (omega arith) (λ e. absurd (omega arith)) ∙ z .clear k g (omega (arith, mark-length x t))
 
       fits : (i : ℕ) → getD (withMark x t) i 0 < 2 ^ 64
@@ -67,12 +67,12 @@ module _ (n : ℕ) (x : List ℕ) (t : ℕ) (in-range : t < n) (room : n ≤ 64 
           rw (getD-set-other x (t / 64) i (bitOr (getD x (t / 64) 0) (2 ^ (t % 64))) 0 there) (z .fits i))
 
 -- ---- no marks
-pub flags-none : (n p : ℕ) → n ≤ 64 * p → flags n (replicate p 0) ≡ replicate n false
+pub flags-none : (count p : ℕ) → count ≤ 64 * p → flags count (replicate p 0) ≡ replicate count false
 unfolding flags
-flags-none n p h = tab-all (marked (replicate p 0)) n false (λ k l. clear-none p k (omega arith))
+flags-none count p h = tab-all (marked (replicate p 0)) count false (λ k l. clear-none p k (omega arith))
 
-pub spare-none : (n p : ℕ) → Spare n (replicate p 0)
-spare-none n p = record {
+pub spare-none : (count p : ℕ) → Spare count (replicate p 0)
+spare-none count p = record {
   clear = λ t g l. clear-none p t (omega (arith, length-replicate {A = ℕ} p 0));
   fits = λ i. omega (arith, zeros p i);
 }
@@ -87,12 +87,12 @@ keeps : (b : Bool) (i : ℕ) (l : List ℕ) → keep b i l ≡ cond b (i ∷ l) 
 keeps true i l = refl
 keeps false i l = refl
 
-in-order : (f : ℕ → Bool) (n i : ℕ) → chosenFrom f n i ≡ setIn i (tab f n i)
+in-order : (f : ℕ → Bool) (count i : ℕ) → chosenFrom f count i ≡ setIn i (tab f count i)
 unfolding chosenFrom setIn tab
 in-order f zero i = refl
-in-order f (suc n) i = keeps (f i) i (chosenFrom f n (suc i)) ∙ ap (λ (l : List ℕ). cond (f i) (i ∷ l) l) (in-order f n (suc i))
+in-order f (suc count) i = keeps (f i) i (chosenFrom f count (suc i)) ∙ ap (λ (l : List ℕ). cond (f i) (i ∷ l) l) (in-order f count (suc i))
 
-pub stops-after : (x : List ℕ) (n i : ℕ) → markedStops x i n ≡ after i (flags n x)
+pub stops-after : (x : List ℕ) (count i : ℕ) → markedStops x i count ≡ after i (flags count x)
 unfolding chosen after flags
-stops-after x n i =
-    in-order (marked x) (n - i) i ∙ ap (setIn i) (sym (tab-drop (marked x) n 0 i ∙ ap (tab (marked x) (n - i)) (zero-add i)))
+stops-after x count i =
+    in-order (marked x) (count - i) i ∙ ap (setIn i) (sym (tab-drop (marked x) count 0 i ∙ ap (tab (marked x) (count - i)) (zero-add i)))

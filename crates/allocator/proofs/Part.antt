@@ -12,8 +12,8 @@ pub part-cleared : (a e : ℕ) (l left : List ℕ) → a ≤ e → e ≤ length 
     → putMid a (e - a) l left ≡ overlaid a (replicate (e - a) 0) l
 unfolding overlaid
 part-cleared a e l left h g z =
-    let n = e - a in
-    let end : a + length {A = ℕ} (replicate n 0) ≡ e = omega (arith, length-replicate {A = ℕ} n 0) in
-    ap (λ (x : List ℕ). take a l ++ (x ++ drop n (drop a l))) (z ∙ ap (λ (x : ℕ). replicate x 0) (mid-len a e l g))
-    ∙ ap (λ (x : List ℕ). take a l ++ (replicate n 0 ++ x)) (post-is a e l h)
-    ∙ ap (λ (x : ℕ). take a l ++ (replicate n 0 ++ drop x l)) (sym end)
+    let count = e - a in
+    let end : a + length {A = ℕ} (replicate count 0) ≡ e = omega (arith, length-replicate {A = ℕ} count 0) in
+    ap (λ (x : List ℕ). take a l ++ (x ++ drop count (drop a l))) (z ∙ ap (λ (x : ℕ). replicate x 0) (mid-len a e l g))
+    ∙ ap (λ (x : List ℕ). take a l ++ (replicate count 0 ++ x)) (post-is a e l h)
+    ∙ ap (λ (x : ℕ). take a l ++ (replicate count 0 ++ drop x l)) (sym end)

@@ -32,23 +32,23 @@ encoded-length none = refl
 encoded-length (some g) = refl
 
 -- six stores in a row write a row
-pub six-stores : (w : List ℕ) (i a b c d e f : ℕ) → i + 6 ≤ length w
-    → set (set (set (set (set (set w i a) (i + 1) b) (i + 2) c) (i + 3) d) (i + 4) e) (i + 5) f
-    ≡ overlaid i (a ∷ b ∷ c ∷ d ∷ e ∷ f ∷ []) w
+pub six-stores : (ws : List ℕ) (i a b c d e f : ℕ) → i + 6 ≤ length ws
+    → set (set (set (set (set (set ws i a) (i + 1) b) (i + 2) c) (i + 3) d) (i + 4) e) (i + 5) f
+    ≡ overlaid i (a ∷ b ∷ c ∷ d ∷ e ∷ f ∷ []) ws
 unfolding overlaid
-six-stores w i a b c d e f h =
+six-stores ws i a b c d e f h =
     let i₁ : i + 1 ≡ suc i = omega arith in
     let i₂ : i + 2 ≡ suc (suc i) = omega arith in
     let i₃ : i + 3 ≡ suc (suc (suc i)) = omega arith in
     let i₄ : i + 4 ≡ suc (suc (suc (suc i))) = omega arith in
     let i₅ : i + 5 ≡ suc (suc (suc (suc (suc i)))) = omega arith in
     let row = a ∷ b ∷ c ∷ d ∷ e ∷ f ∷ [] in
-    rw (i₁, i₂, i₃, i₄, i₅) (sets-eq row w i h) ∙ append-assoc (take i w) row (drop (i + 6) w)
+    rw (i₁, i₂, i₃, i₄, i₅) (sets-eq row ws i h) ∙ append-assoc (take i ws) row (drop (i + 6) ws)
 
 -- the words of a leg, as the code finds them
-pub leg-stores : (w : List ℕ) (i k v : ℕ) (g : Leg) → i + 6 ≤ length w → k ≡ rowKind (g .kind) → v ≡ rowTrip (g .kind)
-    → set (set (set (set (set (set w i k) (i + 1) (g .from)) (i + 2) (g .to)) (i + 3) v) (i + 4) (g .departure .0)) (i + 5)
+pub leg-stores : (ws : List ℕ) (i k v : ℕ) (g : Leg) → i + 6 ≤ length ws → k ≡ rowKind (g .kind) → v ≡ rowTrip (g .kind)
+    → set (set (set (set (set (set ws i k) (i + 1) (g .from)) (i + 2) (g .to)) (i + 3) v) (i + 4) (g .departure .0)) (i + 5)
     (g .arrival .0)
-    ≡ overlaid i (legRow g) w
+    ≡ overlaid i (legRow g) ws
 unfolding legRow
-leg-stores w i k v g h e f = six-stores w i k (g .from) (g .to) v (g .departure .0) (g .arrival .0) h ∙ rw (e, f)
+leg-stores ws i k v g h e f = six-stores ws i k (g .from) (g .to) v (g .departure .0) (g .arrival .0) h ∙ rw (e, f)

@@ -16,6 +16,7 @@ use Rattle.base.specs.Bits.{bit}
 use Rattle.base.proofs.Bits.{bit-lt}
 use Rattle.base.proofs.Choice.{split}
 use Rattle.marks.specs.Marks.{marked}
+use Rattle.model.specs.Limits.{MOST-ROUNDS}
 use Rattle.model.specs.Work.{Work}
 use Rattle.allocator.specs.Sections.{sect}
 use Rattle.allocator.specs.Rows.{encoded, rowOf, parentIn, parents}
@@ -26,15 +27,15 @@ use Rattle.allocator.proofs.Sections.{sect-get, sect-length}
 use Rattle.allocator.proofs.Tabulated.{tab-each}
 
 -- ---- the parents
-module _ (n : ℕ) (x y : List ℕ) (lx : length x ≡ n * 6) (ly : length y ≡ n * 6) where
-  rows-same : Rows n x → Rows n y → parents n x ≡ parents n y → x ≡ y
+module _ (count : ℕ) (x y : List ℕ) (lx : length x ≡ count * 6) (ly : length y ≡ count * 6) where
+  rows-same : Rows count x → Rows count y → parents count x ≡ parents count y → x ≡ y
   unfolding parents rowOf
   rows-same a b e = ext-getD 0 x y (lx ∙ sym ly) each
     where
-      row : (j : ℕ) → j < n → sect (j * 6) 6 x ≡ sect (j * 6) 6 y
+      row : (j : ℕ) → j < count → sect (j * 6) 6 x ≡ sect (j * 6) 6 y
       row j h =
           a .written j h
-          ∙ ap encoded (tab-each (parentIn y) (parentIn x) n none e j h)
+          ∙ ap encoded (tab-each (parentIn y) (parentIn x) count none e j h)
           ∙ sym (b .written j h)
 
       each : (i : ℕ) → i < length x → getD x i 0 ≡ getD y i 0
@@ -67,73 +68,78 @@ digit-same a b g h e =
     (λ t. let p : a ≡ 1 = eqb-true a 1 t in let q : b ≡ 1 = eqb-true b 1 (sym e ∙ t) in omega arith)
     (λ t. let p : a ≡ 1 → ⊥ = eqb-false a 1 t in let q : b ≡ 1 → ⊥ = eqb-false b 1 (sym e ∙ t) in omega arith)
 
-module _ (n : ℕ) (x y : List ℕ) (long : length x ≡ length y) where
-  marks-same : Spare n x → Spare n y → flags n x ≡ flags n y → x ≡ y
+module _ (count : ℕ) (x y : List ℕ) (long : length x ≡ length y) where
+  marks-same : Spare count x → Spare count y → flags count x ≡ flags count y → x ≡ y
   unfolding flags marked
   marks-same a b e = ext-getD 0 x y long word
     where
       mark : (t : ℕ) → t < 64 * length x → marked x t ≡ marked y t
       mark t h =
-          split (ltb t n)
-          (λ l. tab-each (marked y) (marked x) n true e t (ltb-true t n l))
-          (λ l. let l′ = ltb-false t n l in a .clear t l′ h ∙ sym (b .clear t l′ (omega arith)))
+          split (ltb t count)
+          (λ l. tab-each (marked y) (marked x) count true e t (ltb-true t count l))
+          (λ l. let l′ = ltb-false t count l in a .clear t l′ h ∙ sym (b .clear t l′ (omega arith)))
 
       digit : (i j : ℕ) → i < length x → j < 64 → bit (getD x i 0) j ≡ bit (getD y i 0) j
       digit i j h l =
-          let w : (i * 64 + j) / 64 ≡ i = omega arith in
+          let page : (i * 64 + j) / 64 ≡ i = omega arith in
           let d : (i * 64 + j) % 64 ≡ j = omega arith in
-          let here : eqb (bit (getD x i 0) j) 1 ≡ eqb (bit (getD y i 0) j) 1 = rw (w, d) at (mark (i * 64 + j) (omega arith)) in
+          let here : eqb (bit (getD x i 0) j) 1 ≡ eqb (bit (getD y i 0) j) 1 = rw (page, d) at (mark (i * 64 + j) (omega arith)) in
           digit-same (bit (getD x i 0) j) (bit (getD y i 0) j) (bit-lt (getD x i 0) j) (bit-lt (getD y i 0) j) here
 
       word : (i : ℕ) → i < length x → getD x i 0 ≡ getD y i 0
       word i h = digits-same 64 (getD x i 0) (getD y i 0) (a .fits i) (b .fits i) (λ j l. digit i j h l)
 
 -- ---- section after section
-next : (o n e : ℕ) (w v : List ℕ) → e ≡ o + n → sect o n w ≡ sect o n v → drop e w ≡ drop e v → drop o w ≡ drop o v
+next : (start count e : ℕ) (ws ws′ : List ℕ) → e ≡ start + count → sect start count ws ≡ sect start count ws′ → drop e ws ≡ drop e ws′
+    → drop start ws ≡ drop start ws′
 unfolding sect
-next o n e w v p a b =
-    sym (take-append-drop n (drop o w))
-    ∙ rw (a, drop-drop n o w, ← p, b, p, ← drop-drop n o v) (take-append-drop n (drop o v))
+next start count e ws ws′ p a b =
+    sym (take-append-drop count (drop start ws))
+    ∙ rw (a, drop-drop count start ws, ← p, b, p, ← drop-drop count start ws′) (take-append-drop count (drop start ws′))
 
-past : (o : ℕ) (w v : List ℕ) → length w ≡ o → length v ≡ o → drop o w ≡ drop o v
-past o w v a b =
-    let p : length w ≤ o = omega arith in
-    let q : length v ≤ o = omega arith in
-    drop-of-length-le w p ∙ sym (drop-of-length-le v q)
+past : (start : ℕ) (ws ws′ : List ℕ) → length ws ≡ start → length ws′ ≡ start → drop start ws ≡ drop start ws′
+past start ws ws′ a b =
+    let p : length ws ≤ start = omega arith in
+    let q : length ws′ ≤ start = omega arith in
+    drop-of-length-le ws p ∙ sym (drop-of-length-le ws′ q)
 
-module _ (s r : ℕ) (w m v n : List ℕ) (zw : Sized s r w m) (zv : Sized s r v n) (tw : Tidy s r w m) (tv : Tidy s r v n)
-    (e : view s r w m ≡ view s r v n) where
-  words-same : w ≡ v
+module _ (stops routes : ℕ) (ws ms ws′ ms′ : List ℕ) (sized : Sized stops routes ws ms) (sized′ : Sized stops routes ws′ ms′)
+    (tidy : Tidy stops routes ws ms) (tidy′ : Tidy stops routes ws′ ms′)
+    (e : view stops routes ws ms ≡ view stops routes ws′ ms′) where
+  words-same : ws ≡ ws′
   unfolding view prevOf currOf bestOf heldOf activeOf parentsOf
   words-same =
-      let o = 4 * s + r in
-      let lw = sect-length o (90 * s) w (omega arith) in
-      let lv = sect-length o (90 * s) v (omega arith) in
-      next 0 s s w v (omega arith) (ap (λ (x : Work). x .prev) e)
-      (next s s (2 * s) w v (omega arith) (ap (λ (x : Work). x .labels .curr) e)
-      (next (2 * s) s (3 * s) w v (omega arith) (ap (λ (x : Work). x .labels .best) e)
-      (next (3 * s) s (4 * s) w v (omega arith) (ap (λ (x : Work). x .held) e)
-      (next (4 * s) r o w v (omega arith) (ap (λ (x : Work). x .active) e)
-      (next o (90 * s) (94 * s + r) w v (omega arith)
-      (rows-same (15 * s) (sect o (90 * s) w) (sect o (90 * s) v) (omega arith) (omega arith) (tw .known tt .rows) (tv .known tt .rows)
+      let start = 4 * stops + routes in
+      let long-ws = sect-length start (90 * stops) ws (omega arith) in
+      let long-ws′ = sect-length start (90 * stops) ws′ (omega arith) in
+      next 0 stops stops ws ws′ (omega arith) (ap (λ (x : Work). x .prev) e)
+      (next stops stops (2 * stops) ws ws′ (omega arith) (ap (λ (x : Work). x .labels .curr) e)
+      (next (2 * stops) stops (3 * stops) ws ws′ (omega arith) (ap (λ (x : Work). x .labels .best) e)
+      (next (3 * stops) stops (4 * stops) ws ws′ (omega arith) (ap (λ (x : Work). x .held) e)
+      (next (4 * stops) routes start ws ws′ (omega arith) (ap (λ (x : Work). x .active) e)
+      (next start (90 * stops) (94 * stops + routes) ws ws′ (omega arith)
+      (rows-same (MOST-ROUNDS * stops) (sect start (90 * stops) ws) (sect start (90 * stops) ws′) (omega arith) (omega arith)
+      (tidy .known tt .rows) (tidy′ .known tt .rows)
       (ap (λ (x : Work). x .parents) e))
-      (past (94 * s + r) w v (omega arith) (omega arith)))))))
+      (past (94 * stops + routes) ws ws′ (omega arith) (omega arith)))))))
 
-  all-marks-same : m ≡ n
+  all-marks-same : ms ≡ ms′
   unfolding view markOf heldMarkOf maskOf
   all-marks-same =
-      let p = pages s in
-      let q = pages r in
-      let part : (k o b : ℕ) → o + b ≤ 2 * p + q → Spare k (sect o b m) → Spare k (sect o b n)
-      → flags k (sect o b m) ≡ flags k (sect o b n) → sect o b m ≡ sect o b n =
-      λ k o b h. marks-same k (sect o b m) (sect o b n)
-      (sect-length o b m (omega arith) ∙ sym (sect-length o b n (omega arith))) in
-      next 0 p p m n (omega arith) (part s 0 p (omega arith) (tw .known tt .stops) (tv .known tt .stops) (ap (λ (x : Work). x .labels .mark) e))
-      (next p p (2 * p) m n (omega arith) (part s p p (omega arith) (tw .known tt .held) (tv .known tt .held) (ap (λ (x : Work). x .heldMark) e))
-      (next (2 * p) q (2 * p + q) m n (omega arith)
-      (part r (2 * p) q (omega arith) (tw .known tt .routes) (tv .known tt .routes) (ap (λ (x : Work). x .mask) e))
-      (past (2 * p + q) m n (omega arith) (omega arith))))
+      let p = pages stops in
+      let q = pages routes in
+      let part : (k start b : ℕ) → start + b ≤ 2 * p + q → Spare k (sect start b ms) → Spare k (sect start b ms′)
+      → flags k (sect start b ms) ≡ flags k (sect start b ms′) → sect start b ms ≡ sect start b ms′ =
+      λ k start b h. marks-same k (sect start b ms) (sect start b ms′)
+      (sect-length start b ms (omega arith) ∙ sym (sect-length start b ms′ (omega arith))) in
+      next 0 p p ms ms′ (omega arith)
+      (part stops 0 p (omega arith) (tidy .known tt .mark) (tidy′ .known tt .mark) (ap (λ (x : Work). x .labels .mark) e))
+      (next p p (2 * p) ms ms′ (omega arith)
+      (part stops p p (omega arith) (tidy .known tt .heldMark) (tidy′ .known tt .heldMark) (ap (λ (x : Work). x .heldMark) e))
+      (next (2 * p) q (2 * p + q) ms ms′ (omega arith)
+      (part routes (2 * p) q (omega arith) (tidy .known tt .mask) (tidy′ .known tt .mask) (ap (λ (x : Work). x .mask) e))
+      (past (2 * p + q) ms ms′ (omega arith) (omega arith))))
 
   -- so what a contract says of the view it says of everything lent
-  pub same-words : (w ≡ v) × (m ≡ n)
+  pub same-words : (ws ≡ ws′) × (ms ≡ ms′)
   same-words = (words-same, all-marks-same)

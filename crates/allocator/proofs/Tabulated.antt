@@ -13,54 +13,54 @@ use Rattle.base.proofs.Choice.{split}
 use Rattle.base.specs.Tab.{tab}
 
 module _ {A : Type 0} (f : ℕ → A) where
-  pub tab-length : (n i : ℕ) → length (tab f n i) ≡ n
+  pub tab-length : (count i : ℕ) → length (tab f count i) ≡ count
   unfolding tab
   tab-length zero i = refl
-  tab-length (suc n) i = ap suc (tab-length n (suc i))
+  tab-length (suc count) i = ap suc (tab-length count (suc i))
 
-  at : (n i k : ℕ) (d : A) → k < n → getD (tab f n i) k d ≡ f (i + k)
+  at : (count i k : ℕ) (d : A) → k < count → getD (tab f count i) k d ≡ f (i + k)
   unfolding tab
   at zero i k d h = absurd (omega arith)
-  at (suc n) i zero d h = ap f (sym (add-zero i))
-  at (suc n) i (suc k) d h = at n (suc i) k d (omega arith) ∙ ap f (suc-add i k ∙ sym (add-suc i k))
+  at (suc count) i zero d h = ap f (sym (add-zero i))
+  at (suc count) i (suc k) d h = at count (suc i) k d (omega arith) ∙ ap f (suc-add i k ∙ sym (add-suc i k))
 
-  pub tab-at : (n k : ℕ) (d : A) → k < n → getD (tab f n 0) k d ≡ f k
-  tab-at n k d h = at n 0 k d h ∙ ap f (zero-add k)
+  pub tab-at : (count k : ℕ) (d : A) → k < count → getD (tab f count 0) k d ≡ f k
+  tab-at count k d h = at count 0 k d h ∙ ap f (zero-add k)
 
-  pub tab-drop : (n i k : ℕ) → drop k (tab f n i) ≡ tab f (n - k) (i + k)
+  pub tab-drop : (count i k : ℕ) → drop k (tab f count i) ≡ tab f (count - k) (i + k)
   unfolding tab
-  tab-drop n i zero = let e : n - 0 ≡ n = omega arith in rw (add-zero, e)
+  tab-drop count i zero = let e : count - 0 ≡ count = omega arith in rw (add-zero, e)
   tab-drop zero i (suc k) = let e : 0 - suc k ≡ 0 = omega arith in rw e
-  tab-drop (suc n) i (suc k) =
-      let e : suc n - suc k ≡ n - k = omega arith in
+  tab-drop (suc count) i (suc k) =
+      let e : suc count - suc k ≡ count - k = omega arith in
       let there : suc i + k ≡ i + suc k = omega arith in
-      rw (e, ← there) (tab-drop n (suc i) k)
+      rw (e, ← there) (tab-drop count (suc i) k)
 
-  pub tab-all : (n : ℕ) (v : A) → ((k : ℕ) → k < n → f k ≡ v) → tab f n 0 ≡ replicate n v
-  tab-all n v e =
-      let long = tab-length n 0 in
-      ext-getD v (tab f n 0) (replicate n v) (long ∙ sym (length-replicate n v))
+  pub tab-all : (count : ℕ) (v : A) → ((k : ℕ) → k < count → f k ≡ v) → tab f count 0 ≡ replicate count v
+  tab-all count v e =
+      let long = tab-length count 0 in
+      ext-getD v (tab f count 0) (replicate count v) (long ∙ sym (length-replicate count v))
       (λ k l.
-      let h : k < n = omega arith in
-      tab-at n k v h ∙ e k h ∙ sym (getD-replicate n k v v h))
+      let h : k < count = omega arith in
+      tab-at count k v h ∙ e k h ∙ sym (getD-replicate count k v v h))
 
-module _ {A : Type 0} (f g : ℕ → A) (n : ℕ) where
-  pub tab-set : (i : ℕ) (v : A) → i < n → g i ≡ v → ((k : ℕ) → k < n → (k ≡ i → ⊥) → g k ≡ f k)
-      → tab g n 0 ≡ set (tab f n 0) i v
+module _ {A : Type 0} (f g : ℕ → A) (count : ℕ) where
+  pub tab-set : (i : ℕ) (v : A) → i < count → g i ≡ v → ((k : ℕ) → k < count → (k ≡ i → ⊥) → g k ≡ f k)
+      → tab g count 0 ≡ set (tab f count 0) i v
   tab-set i v b here e =
-      let long = tab-length g n 0 in
-      let old = tab-length f n 0 in
-      ext-getD v (tab g n 0) (set (tab f n 0) i v) (long ∙ sym (length-set (tab f n 0) i v ∙ old))
+      let long = tab-length g count 0 in
+      let old = tab-length f count 0 in
+      ext-getD v (tab g count 0) (set (tab f count 0) i v) (long ∙ sym (length-set (tab f count 0) i v ∙ old))
       (λ k l.
-      let h : k < n = omega arith in
+      let h : k < count = omega arith in
       split (eqb k i)
       (λ t.
       let same : k ≡ i = eqb-true k i t in
-      rw same (tab-at g n i v b ∙ here ∙ sym (getD-set-same (tab f n 0) i v v (omega arith))))
+      rw same (tab-at g count i v b ∙ here ∙ sym (getD-set-same (tab f count 0) i v v (omega arith))))
       (λ t.
       let other : k ≡ i → ⊥ = eqb-false k i t in
-      tab-at g n k v h ∙ e k h other ∙ sym (getD-set-other (tab f n 0) i k v v other ∙ tab-at f n k v h)))
+      tab-at g count k v h ∙ e k h other ∙ sym (getD-set-other (tab f count 0) i k v v other ∙ tab-at f count k v h)))
 
   -- equal lists have equal elements
-  pub tab-each : A → tab g n 0 ≡ tab f n 0 → (k : ℕ) → k < n → g k ≡ f k
-  tab-each d e k h = sym (tab-at g n k d h) ∙ ap (λ (l : List A). getD l k d) e ∙ tab-at f n k d h
+  pub tab-each : A → tab g count 0 ≡ tab f count 0 → (k : ℕ) → k < count → g k ≡ f k
+  tab-each d e k h = sym (tab-at g count k d h) ∙ ap (λ (l : List A). getD l k d) e ∙ tab-at f count k d h

@@ -20,20 +20,20 @@ module _ {d : Direction} (t b : ℕ) where
 
   pub better-first : d ≡ Departure → (t ≡ 0 → ⊥) → b ≡ 0 → ltb t MAX ≡ better d t b
   unfolding better orMax
-  better-first e n z = rw (e, z) (go t n)
+  better-first e h z = rw (e, z) (go t h)
     where
       go : (t : ℕ) → (t ≡ 0 → ⊥) → ltb t MAX ≡ better Departure t 0
-      go zero n = absurd (n refl)
-      go (suc t) n = refl
+      go zero h = absurd (h refl)
+      go (suc t) h = refl
 
   pub better-later : d ≡ Departure → (t ≡ 0 → ⊥) → (b ≡ 0 → ⊥) → ltb t b ≡ better d t b
   unfolding better orMax
-  better-later e n z = rw e (go t b n z)
+  better-later e h z = rw e (go t b h z)
     where
       go : (t b : ℕ) → (t ≡ 0 → ⊥) → (b ≡ 0 → ⊥) → ltb t b ≡ better Departure t b
-      go zero b n z = absurd (n refl)
-      go (suc t) zero n z = absurd (z refl)
-      go (suc t) (suc b) n z = refl
+      go zero b h z = absurd (h refl)
+      go (suc t) zero h z = absurd (z refl)
+      go (suc t) (suc b) h z = refl
 
   pub better-arrival : d ≡ Arrival → ltb b t ≡ better d t b
   unfolding better

@@ -13,27 +13,31 @@ use Rattle.allocator.specs.Operations.{unmarked}
 use Rattle.allocator.proofs.Became.{words-sized, marks-sized}
 use Rattle.allocator.proofs.Same.{same-words}
 
--- the slices w and m were lent, v and n are what they hold now: the state x
-pub record Leaves (s r : ℕ) (w m : List ℕ) (x : Work) (v n : List ℕ) : Type 0 where
-  pub is : view s r v n ≡ x
-  pub tidy : Tidy s r v n
-  pub words-long : length v ≡ length w
-  pub marks-long : length n ≡ length m
+-- the slices held ws and ms when they were lent, and hold ws′ and ms′ now: the state x
+pub record Leaves (stops routes : ℕ) (ws ms : List ℕ) (x : Work) (ws′ ms′ : List ℕ) : Type 0 where
+  pub is : view stops routes ws′ ms′ ≡ x
+  pub tidy : Tidy stops routes ws′ ms′
+  pub words-long : length ws′ ≡ length ws
+  pub marks-long : length ms′ ≡ length ms
 
-module _ {s r : ℕ} {w m : List ℕ} (z : Sized s r w m) where
-  pub leaves-sized : {x : Work} {v n : List ℕ} → Leaves s r w m x v n → Sized s r v n
+module _ {stops routes : ℕ} {ws ms : List ℕ} (z : Sized stops routes ws ms) where
+  pub leaves-sized : {x : Work} {ws′ ms′ : List ℕ} → Leaves stops routes ws ms x ws′ ms′ → Sized stops routes ws′ ms′
   leaves-sized h = marks-sized (words-sized z (h .words-long)) (h .marks-long)
 
-  pub leaves-unique : {x : Work} {v n v′ n′ : List ℕ} → Leaves s r w m x v n → Leaves s r w m x v′ n′ → (v ≡ v′) × (n ≡ n′)
-  leaves-unique {x} {v} {n} {v′} {n′} a b =
-      same-words s r v n v′ n′ (leaves-sized a) (leaves-sized b) (a .tidy) (b .tidy) (a .is ∙ sym (b .is))
+  pub leaves-unique : {x : Work} {ws′ ms′ ws″ ms″ : List ℕ} → Leaves stops routes ws ms x ws′ ms′ → Leaves stops routes ws ms x ws″ ms″
+      → (ws′ ≡ ws″) × (ms′ ≡ ms″)
+  leaves-unique {x} {ws′} {ms′} {ws″} {ms″} a b =
+      same-words stops routes ws′ ms′ ws″ ms″ (leaves-sized a) (leaves-sized b) (a .tidy) (b .tidy) (a .is ∙ sym (b .is))
 
-pub does-unique : {s r : ℕ} (f : Work → Work) {w m v n v′ n′ : List ℕ} → Does s r f w m v n → Does s r f w m v′ n′
-    → (v ≡ v′) × (n ≡ n′)
-does-unique {s} {r} f {w} {m} {v} {n} {v′} {n′} a b =
-    same-words s r v n v′ n′ (a .usable .sized) (b .usable .sized) (a .usable .tidy) (b .usable .tidy) (a .holds ∙ sym (b .holds))
+pub does-unique : {stops routes : ℕ} (f : Work → Work) {ws ms ws′ ms′ ws″ ms″ : List ℕ} → Does stops routes f ws ms ws′ ms′
+    → Does stops routes f ws ms ws″ ms″
+    → (ws′ ≡ ws″) × (ms′ ≡ ms″)
+does-unique {stops} {routes} f {ws} {ms} {ws′} {ms′} {ws″} {ms″} a b =
+    same-words stops routes ws′ ms′ ws″ ms″ (a .usable .sized) (b .usable .sized) (a .usable .tidy) (b .usable .tidy)
+    (a .holds ∙ sym (b .holds))
 
 -- so no second result of `clear_marks`: a mark beyond the last stop cannot stay
-pub clear-marks-unique : {s r : ℕ} {w m v n v′ n′ : List ℕ} → Does s r (unmarked s) w m v n → Does s r (unmarked s) w m v′ n′
-    → (v ≡ v′) × (n ≡ n′)
-clear-marks-unique {s} a b = does-unique (unmarked s) a b
+pub clear-marks-unique : {stops routes : ℕ} {ws ms ws′ ms′ ws″ ms″ : List ℕ} → Does stops routes (unmarked stops) ws ms ws′ ms′
+    → Does stops routes (unmarked stops) ws ms ws″ ms″
+    → (ws′ ≡ ws″) × (ms′ ≡ ms″)
+clear-marks-unique {stops} a b = does-unique (unmarked stops) a b

@@ -1,4 +1,4 @@
--- What an operation finds and leaves: the handle by which all contracts above speak of the workspace of s stops and r routes.
+-- What an operation finds and leaves: the handle by which all contracts above speak of the workspace.
 use Prim.Native.Nat.{ℕ}
 use mathlib.Core.List.{List}
 use mathlib.Core.Path.{_≡_}
@@ -7,11 +7,11 @@ use Rattle.allocator.specs.Layout.{Sized, view}
 use Rattle.allocator.specs.Tidy.{Tidy}
 
 -- the slices have their lengths, and hold nothing beside the state
-pub record Usable (s r : ℕ) (w m : List ℕ) : Type 0 where
-  pub sized : Sized s r w m
-  pub tidy : Tidy s r w m
+pub record Usable (stops routes : ℕ) (ws ms : List ℕ) : Type 0 where
+  pub sized : Sized stops routes ws ms
+  pub tidy : Tidy stops routes ws ms
 
--- the words w and the marks m became w′ and m′: these hold f of the state that those held, and can be used again
-pub record Does (s r : ℕ) (f : Work → Work) (w m w′ m′ : List ℕ) : Type 0 where
-  pub holds : view s r w′ m′ ≡ f (view s r w m)
-  pub usable : Usable s r w′ m′
+-- the words ws and the marks ms became ws′ and ms′: these hold f of the state that those held, and can be used again
+pub record Does (stops routes : ℕ) (f : Work → Work) (ws ms ws′ ms′ : List ℕ) : Type 0 where
+  pub holds : view stops routes ws′ ms′ ≡ f (view stops routes ws ms)
+  pub usable : Usable stops routes ws′ ms′

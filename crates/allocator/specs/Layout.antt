@@ -1,4 +1,4 @@
--- Where each part of the state stands, at s stops and r routes. Words: previous labels, current labels, best
+-- Where each part of the state stands, by how many stops and routes there are. Words: previous labels, current labels, best
 -- moments, held labels, the routes' marks, and the parents of 15 rounds. Marks: of the stops, of the stops as held,
 -- of the routes that the round scans.
 use mathlib.Core.Bool.{Bool}
@@ -10,81 +10,81 @@ use lib.ListN.{length}
 use Rattle.base.specs.Tab.{tab}
 use Rattle.marks.specs.Marks.{marked}
 use Rattle.model.specs.declared.Leg.{Leg}
-use Rattle.model.specs.Limits.{MOST-STOPS, MOST-ROUTES}
+use Rattle.model.specs.Limits.{MOST-STOPS, MOST-ROUTES, MOST-ROUNDS}
 use Rattle.model.specs.Work.{Work}
 use Rattle.allocator.specs.Sections.{sect}
 use Rattle.allocator.specs.Rows.{parents}
 
--- how many words hold n marks, 64 to a word
+-- how many words hold `count` marks, 64 to a word
 abbrev pub pages : ℕ → ℕ
-pages n = (n + 63) / 64
+pages count = (count + 63) / 64
 
--- how many words, and how many words of marks, the state of s stops and r routes takes
+-- how many words, and how many words of marks, the state takes
 abbrev pub wordsRoom : ℕ → ℕ → ℕ
-wordsRoom s r = 94 * s + r
+wordsRoom stops routes = 94 * stops + routes
 
 abbrev pub marksRoom : ℕ → ℕ → ℕ
-marksRoom s r = 2 * pages s + pages r
+marksRoom stops routes = 2 * pages stops + pages routes
 
 -- "Most: 4,096 stops, 1,024 routes": no place below overflows
-pub record Words (s r : ℕ) (w : List ℕ) : Type 0 where
-  pub most-stops : s ≤ MOST-STOPS
-  pub most-routes : r ≤ MOST-ROUTES
-  pub words-length : length w ≡ 94 * s + r
+pub record Words (stops routes : ℕ) (ws : List ℕ) : Type 0 where
+  pub most-stops : stops ≤ MOST-STOPS
+  pub most-routes : routes ≤ MOST-ROUTES
+  pub words-length : length ws ≡ 94 * stops + routes
 
-pub record Marks (s r : ℕ) (m : List ℕ) : Type 0 where
-  pub most-stops : s ≤ MOST-STOPS
-  pub most-routes : r ≤ MOST-ROUTES
-  pub marks-length : length m ≡ 2 * pages s + pages r
+pub record Marks (stops routes : ℕ) (ms : List ℕ) : Type 0 where
+  pub most-stops : stops ≤ MOST-STOPS
+  pub most-routes : routes ≤ MOST-ROUTES
+  pub marks-length : length ms ≡ 2 * pages stops + pages routes
 
 -- both slices have the length that the tables ask for
-pub record Sized (s r : ℕ) (w m : List ℕ) : Type 0 where
-  pub words : Words s r w
-  pub marks : Marks s r m
+pub record Sized (stops routes : ℕ) (ws ms : List ℕ) : Type 0 where
+  pub words : Words stops routes ws
+  pub marks : Marks stops routes ms
 
--- the first n marks of the words x
+-- the first `count` marks of the words x
 unfoldable pub flags : ℕ → List ℕ → List Bool
-flags n x = tab (marked x) n 0
+flags count x = tab (marked x) count 0
 
-module _ (s r : ℕ) where
+module _ (stops routes : ℕ) where
   -- ---- in the words
   unfoldable pub prevOf : List ℕ → List ℕ
-  prevOf w = sect 0 s w
+  prevOf ws = sect 0 stops ws
 
   unfoldable pub currOf : List ℕ → List ℕ
-  currOf w = sect s s w
+  currOf ws = sect stops stops ws
 
   unfoldable pub bestOf : List ℕ → List ℕ
-  bestOf w = sect (2 * s) s w
+  bestOf ws = sect (2 * stops) stops ws
 
   unfoldable pub heldOf : List ℕ → List ℕ
-  heldOf w = sect (3 * s) s w
+  heldOf ws = sect (3 * stops) stops ws
 
   unfoldable pub activeOf : List ℕ → List ℕ
-  activeOf w = sect (4 * s) r w
+  activeOf ws = sect (4 * stops) routes ws
 
-  -- the parent of stop i in round k is row k * s + i
+  -- the parent of stop i in round k is row k * stops + i
   unfoldable pub parentsOf : List ℕ → List (Option Leg)
-  parentsOf w = parents (15 * s) (sect (4 * s + r) (90 * s) w)
+  parentsOf ws = parents (MOST-ROUNDS * stops) (sect (4 * stops + routes) (90 * stops) ws)
 
   -- ---- in the marks
   unfoldable pub markOf : List ℕ → List Bool
-  markOf m = flags s (sect 0 (pages s) m)
+  markOf ms = flags stops (sect 0 (pages stops) ms)
 
   unfoldable pub heldMarkOf : List ℕ → List Bool
-  heldMarkOf m = flags s (sect (pages s) (pages s) m)
+  heldMarkOf ms = flags stops (sect (pages stops) (pages stops) ms)
 
   unfoldable pub maskOf : List ℕ → List Bool
-  maskOf m = flags r (sect (2 * pages s) (pages r) m)
+  maskOf ms = flags routes (sect (2 * pages stops) (pages routes) ms)
 
   -- the state that the words and the marks hold
   unfoldable pub view : List ℕ → List ℕ → Work
-  view w m = record {
-    prev = prevOf w;
-    labels = record { curr = currOf w; best = bestOf w; mark = markOf m };
-    held = heldOf w;
-    heldMark = heldMarkOf m;
-    active = activeOf w;
-    mask = maskOf m;
-    parents = parentsOf w;
+  view ws ms = record {
+    prev = prevOf ws;
+    labels = record { curr = currOf ws; best = bestOf ws; mark = markOf ms };
+    held = heldOf ws;
+    heldMark = heldMarkOf ms;
+    active = activeOf ws;
+    mask = maskOf ms;
+    parents = parentsOf ws;
   }

@@ -59,9 +59,9 @@ rowOf x i = sect (i * 6) 6 x
 unfoldable pub parentIn : List ℕ → ℕ → Option Leg
 parentIn x i = decoded (rowOf x i)
 
--- the parents of the first n rows
+-- the parents of the first `count` rows
 unfoldable pub parents : ℕ → List ℕ → List (Option Leg)
-parents n x = tab (parentIn x) n 0
+parents count x = tab (parentIn x) count 0
 
 -- a parent as the code answers with it
 unfoldable pub parentOf : Option Leg → Parent

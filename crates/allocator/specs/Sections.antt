@@ -3,10 +3,10 @@ use mathlib.Core.List.{List, _++_}
 use Prim.Native.Nat.{ℕ, _+_}
 use lib.ListN.{length, take, drop}
 
--- the n elements from o on
+-- `count` elements, from `start` on
 unfoldable pub sect : ℕ → ℕ → List ℕ → List ℕ
-sect o n w = take n (drop o w)
+sect start count ws = take count (drop start ws)
 
--- w with xs written over it from o on
+-- ws with xs written over it from `start` on
 unfoldable pub overlaid : ℕ → List ℕ → List ℕ → List ℕ
-overlaid o xs w = take o w ++ (xs ++ drop (o + length xs) w)
+overlaid start xs ws = take start ws ++ (xs ++ drop (start + length xs) ws)

@@ -1,6 +1,7 @@
 // The workspace of a search: the only crate that knows where a label, a mark or a parent stands.
-// With n stops and m routes, `words` holds the previous labels (n), the current labels (n), the best
-// moments (n), the held labels (n), the routes' marks (m) and the parents (15 * n rows of 6 words).
+// With so many stops and so many routes, `words` holds the previous labels (stops), the current labels
+// (stops), the best moments (stops), the held labels (stops), the routes' marks (routes) and the parents
+// (15 * stops rows of 6 words).
 // `marks` holds the marks of the stops, of the stops as held, and of the routes that a round scans,
 // each in whole words of 64.
 ghost use mathlib.Core.Bool.{Bool};
@@ -9,7 +10,7 @@ ghost use mathlib.Core.Path.{_≡_};
 ghost use Prim.Native.Nat.{_+_, _-_, _*_, _<_, _≤_};
 ghost use lib.ListN.{length, getD, set, replicate};
 ghost use Rattle.marks.specs.Marks.{firstOf};
-ghost use Rattle.model.specs.Limits.{MOST-STOPS, MOST-ROUTES};
+ghost use Rattle.model.specs.Limits.{MOST-STOPS, MOST-ROUTES, MOST-ROUNDS};
 ghost use Rattle.model.specs.Choosing.{sooner};
 ghost use Rattle.model.specs.Lists.{anyOf};
 ghost use Rattle.model.specs.Legs.{legOf};
@@ -60,29 +61,29 @@ fn fill(words: &mut [u32], a: usize, e: usize, v: u32)
     }
 }
 
-// Copies the n words from a on to b and on. The two parts are apart.
-fn copy(words: &mut [u32], a: usize, b: usize, n: usize)
-    requires { ⌜ a + n ≤ length (now words) ⌝ }
-    requires { ⌜ b + n ≤ length (now words) ⌝ }
-    requires { ⌜ n ≤ (a - b) + (b - a) ⌝ }
-    ensures { λ _. ⌜ now (words .exit) ≡ overlaid b (sect a n (now (words .entry))) (now (words .entry)) ⌝ }
+// Copies `count` words from a on to b and on. The two parts are apart.
+fn copy(words: &mut [u32], a: usize, b: usize, count: usize)
+    requires { ⌜ a + count ≤ length (now words) ⌝ }
+    requires { ⌜ b + count ≤ length (now words) ⌝ }
+    requires { ⌜ count ≤ (a - b) + (b - a) ⌝ }
+    ensures { λ _. ⌜ now (words .exit) ≡ overlaid b (sect a count (now (words .entry))) (now (words .entry)) ⌝ }
 {
     let mut i = 0;
-    while i < n {
+    while i < count {
         words[b + i] = words[a + i];
         i += 1;
     }
 }
 
 // The same of marks.
-fn copy_marks(marks: &mut [u64], a: usize, b: usize, n: usize)
-    requires { ⌜ a + n ≤ length (now marks) ⌝ }
-    requires { ⌜ b + n ≤ length (now marks) ⌝ }
-    requires { ⌜ n ≤ (a - b) + (b - a) ⌝ }
-    ensures { λ _. ⌜ now (marks .exit) ≡ overlaid b (sect a n (now (marks .entry))) (now (marks .entry)) ⌝ }
+fn copy_marks(marks: &mut [u64], a: usize, b: usize, count: usize)
+    requires { ⌜ a + count ≤ length (now marks) ⌝ }
+    requires { ⌜ b + count ≤ length (now marks) ⌝ }
+    requires { ⌜ count ≤ (a - b) + (b - a) ⌝ }
+    ensures { λ _. ⌜ now (marks .exit) ≡ overlaid b (sect a count (now (marks .entry))) (now (marks .entry)) ⌝ }
 {
     let mut i = 0;
-    while i < n {
+    while i < count {
         marks[b + i] = marks[a + i];
         i += 1;
     }
@@ -97,25 +98,25 @@ fn clear_part(marks: &mut [u64], a: usize, e: usize)
     marks::clear_all(&mut marks[a..e]);
 }
 
-// How many words hold the marks of n stops or routes.
-fn pages_of(n: u32) -> usize
-    ensures { λ p. ⌜ p ≡ pages n ⌝ }
+// How many words hold the marks of `count` stops or routes.
+fn pages_of(count: u32) -> usize
+    ensures { λ p. ⌜ p ≡ pages count ⌝ }
 {
-    (n as usize + 63) / 64
+    (count as usize + 63) / 64
 }
 
-// How many words the workspace of n stops and m routes takes.
-pub fn words_room(n: u32, m: u32) -> usize
-    ensures { λ k. ⌜ k ≡ wordsRoom n m ⌝ }
+// How many words the workspace takes.
+pub fn words_room(stops: u32, routes: u32) -> usize
+    ensures { λ k. ⌜ k ≡ wordsRoom stops routes ⌝ }
 {
-    94 * n as usize + m as usize
+    94 * stops as usize + routes as usize
 }
 
 // How many words of marks it takes.
-pub fn marks_room(n: u32, m: u32) -> usize
-    ensures { λ k. ⌜ k ≡ marksRoom n m ⌝ }
+pub fn marks_room(stops: u32, routes: u32) -> usize
+    ensures { λ k. ⌜ k ≡ marksRoom stops routes ⌝ }
 {
-    2 * pages_of(n) + pages_of(m)
+    2 * pages_of(stops) + pages_of(routes)
 }
 
 // ---- tests, and the leg of a proposal
@@ -193,64 +194,64 @@ fn blank_of(d: Direction) -> u32
 // ---- readers
 
 // The label of stop s in the round before.
-pub fn prev_at(words: &[u32], n: u32, m: u32, s: u32) -> Time
-    requires { ⌜ Words n m (now words) ⌝ }
-    requires { ⌜ s < n ⌝ }
-    ensures { λ t. ⌜ t .0 ≡ getD (prevOf n m (now (words .entry))) s 0 ⌝ }
+pub fn prev_at(words: &[u32], stops: u32, routes: u32, s: u32) -> Time
+    requires { ⌜ Words stops routes (now words) ⌝ }
+    requires { ⌜ s < stops ⌝ }
+    ensures { λ t. ⌜ t .0 ≡ getD (prevOf stops routes (now (words .entry))) s 0 ⌝ }
 {
     let i = s as usize;
     Time(words[i])
 }
 
 // The label of stop s in this round.
-pub fn curr_at(words: &[u32], n: u32, m: u32, s: u32) -> Time
-    requires { ⌜ Words n m (now words) ⌝ }
-    requires { ⌜ s < n ⌝ }
-    ensures { λ t. ⌜ t .0 ≡ getD (currOf n m (now (words .entry))) s 0 ⌝ }
+pub fn curr_at(words: &[u32], stops: u32, routes: u32, s: u32) -> Time
+    requires { ⌜ Words stops routes (now words) ⌝ }
+    requires { ⌜ s < stops ⌝ }
+    ensures { λ t. ⌜ t .0 ≡ getD (currOf stops routes (now (words .entry))) s 0 ⌝ }
 {
-    let i = n as usize + s as usize;
+    let i = stops as usize + s as usize;
     Time(words[i])
 }
 
 // The best moment of stop s.
-pub fn best_at(words: &[u32], n: u32, m: u32, s: u32) -> Time
-    requires { ⌜ Words n m (now words) ⌝ }
-    requires { ⌜ s < n ⌝ }
-    ensures { λ t. ⌜ t .0 ≡ getD (bestOf n m (now (words .entry))) s 0 ⌝ }
+pub fn best_at(words: &[u32], stops: u32, routes: u32, s: u32) -> Time
+    requires { ⌜ Words stops routes (now words) ⌝ }
+    requires { ⌜ s < stops ⌝ }
+    ensures { λ t. ⌜ t .0 ≡ getD (bestOf stops routes (now (words .entry))) s 0 ⌝ }
 {
-    let i = 2 * (n as usize) + s as usize;
+    let i = 2 * (stops as usize) + s as usize;
     Time(words[i])
 }
 
 // The label of stop s as this round's rides left it.
-pub fn held_at(words: &[u32], n: u32, m: u32, s: u32) -> Time
-    requires { ⌜ Words n m (now words) ⌝ }
-    requires { ⌜ s < n ⌝ }
-    ensures { λ t. ⌜ t .0 ≡ getD (heldOf n m (now (words .entry))) s 0 ⌝ }
+pub fn held_at(words: &[u32], stops: u32, routes: u32, s: u32) -> Time
+    requires { ⌜ Words stops routes (now words) ⌝ }
+    requires { ⌜ s < stops ⌝ }
+    ensures { λ t. ⌜ t .0 ≡ getD (heldOf stops routes (now (words .entry))) s 0 ⌝ }
 {
-    let i = 3 * (n as usize) + s as usize;
+    let i = 3 * (stops as usize) + s as usize;
     Time(words[i])
 }
 
 // The mark of route r: from which position the route is scanned.
-pub fn active_at(words: &[u32], n: u32, m: u32, r: u32) -> u32
-    requires { ⌜ Words n m (now words) ⌝ }
-    requires { ⌜ r < m ⌝ }
-    ensures { λ p. ⌜ p ≡ getD (activeOf n m (now (words .entry))) r 0 ⌝ }
+pub fn active_at(words: &[u32], stops: u32, routes: u32, r: u32) -> u32
+    requires { ⌜ Words stops routes (now words) ⌝ }
+    requires { ⌜ r < routes ⌝ }
+    ensures { λ p. ⌜ p ≡ getD (activeOf stops routes (now (words .entry))) r 0 ⌝ }
 {
-    let i = 4 * (n as usize) + r as usize;
+    let i = 4 * (stops as usize) + r as usize;
     words[i]
 }
 
 // Where the parent of stop s in round k stands. The one product of two numbers is here.
-fn row_at(n: u32, m: u32, k: u32, s: u32) -> usize
-    requires { ⌜ (n ≤ MOST-STOPS) × (m ≤ MOST-ROUTES) ⌝ }
-    requires { ⌜ s < n ⌝ }
-    requires { ⌜ k < 15 ⌝ }
-    ensures { λ i. ⌜ i ≡ 4 * n + m + (k * n + s) * 6 ⌝ }
-    ensures { λ i. ⌜ i + 6 ≤ 94 * n + m ⌝ }
+fn row_at(stops: u32, routes: u32, k: u32, s: u32) -> usize
+    requires { ⌜ (stops ≤ MOST-STOPS) × (routes ≤ MOST-ROUTES) ⌝ }
+    requires { ⌜ s < stops ⌝ }
+    requires { ⌜ k < MOST-ROUNDS ⌝ }
+    ensures { λ i. ⌜ i ≡ 4 * stops + routes + (k * stops + s) * 6 ⌝ }
+    ensures { λ i. ⌜ i + 6 ≤ 94 * stops + routes ⌝ }
 {
-    4 * (n as usize) + m as usize + ((k as usize) * (n as usize) + s as usize) * 6
+    4 * (stops as usize) + routes as usize + ((k as usize) * (stops as usize) + s as usize) * 6
 }
 
 // The leg in the row that begins at word i.
@@ -286,51 +287,51 @@ fn parent_in(words: &[u32], i: usize) -> Parent
 }
 
 // The leg by which stop s was reached in round k.
-pub fn parent_at(words: &[u32], n: u32, m: u32, k: u32, s: u32) -> Parent
-    requires { ⌜ Words n m (now words) ⌝ }
-    requires { ⌜ s < n ⌝ }
-    requires { ⌜ k < 15 ⌝ }
-    ensures { λ p. ⌜ p ≡ parentOf (getD (parentsOf n m (now (words .entry))) (k * n + s) none) ⌝ }
+pub fn parent_at(words: &[u32], stops: u32, routes: u32, k: u32, s: u32) -> Parent
+    requires { ⌜ Words stops routes (now words) ⌝ }
+    requires { ⌜ s < stops ⌝ }
+    requires { ⌜ k < MOST-ROUNDS ⌝ }
+    ensures { λ p. ⌜ p ≡ parentOf (getD (parentsOf stops routes (now (words .entry))) (k * stops + s) none) ⌝ }
 {
-    let i = row_at(n, m, k, s);
+    let i = row_at(stops, routes, k, s);
     parent_in(words, i)
 }
 
 // The first marked stop at or after `from`.
-pub fn next_marked(marks: &[u64], n: u32, m: u32, from: usize) -> Next
-    requires { ⌜ Marks n m (now marks) ⌝ }
-    ensures { λ r. ⌜ r ≡ firstOf (after from (markOf n m (now (marks .entry)))) ⌝ }
+pub fn next_marked(marks: &[u64], stops: u32, routes: u32, from: usize) -> Next
+    requires { ⌜ Marks stops routes (now marks) ⌝ }
+    ensures { λ r. ⌜ r ≡ firstOf (after from (markOf stops routes (now (marks .entry)))) ⌝ }
 {
-    let p = pages_of(n);
-    marks::next_mark(&marks[0..p], from, n as usize)
+    let p = pages_of(stops);
+    marks::next_mark(&marks[0..p], from, stops as usize)
 }
 
 // The first stop at or after `from` that the round's rides marked.
-pub fn next_held(marks: &[u64], n: u32, m: u32, from: usize) -> Next
-    requires { ⌜ Marks n m (now marks) ⌝ }
-    ensures { λ r. ⌜ r ≡ firstOf (after from (heldMarkOf n m (now (marks .entry)))) ⌝ }
+pub fn next_held(marks: &[u64], stops: u32, routes: u32, from: usize) -> Next
+    requires { ⌜ Marks stops routes (now marks) ⌝ }
+    ensures { λ r. ⌜ r ≡ firstOf (after from (heldMarkOf stops routes (now (marks .entry)))) ⌝ }
 {
-    let p = pages_of(n);
+    let p = pages_of(stops);
     let e = 2 * p;
-    marks::next_mark(&marks[p..e], from, n as usize)
+    marks::next_mark(&marks[p..e], from, stops as usize)
 }
 
 // The first route at or after `from` that the round scans.
-pub fn next_route(marks: &[u64], n: u32, m: u32, from: usize) -> Next
-    requires { ⌜ Marks n m (now marks) ⌝ }
-    ensures { λ r. ⌜ r ≡ firstOf (after from (maskOf n m (now (marks .entry)))) ⌝ }
+pub fn next_route(marks: &[u64], stops: u32, routes: u32, from: usize) -> Next
+    requires { ⌜ Marks stops routes (now marks) ⌝ }
+    ensures { λ r. ⌜ r ≡ firstOf (after from (maskOf stops routes (now (marks .entry)))) ⌝ }
 {
-    let a = 2 * pages_of(n);
-    let e = a + pages_of(m);
-    marks::next_mark(&marks[a..e], from, m as usize)
+    let a = 2 * pages_of(stops);
+    let e = a + pages_of(routes);
+    marks::next_mark(&marks[a..e], from, routes as usize)
 }
 
 // Whether a stop is marked: a search ends where none is.
-pub fn any_marked(marks: &[u64], n: u32, m: u32) -> bool
-    requires { ⌜ Marks n m (now marks) ⌝ }
-    ensures { λ b. ⌜ b ≡ anyOf (markOf n m (now (marks .entry))) ⌝ }
+pub fn any_marked(marks: &[u64], stops: u32, routes: u32) -> bool
+    requires { ⌜ Marks stops routes (now marks) ⌝ }
+    ensures { λ b. ⌜ b ≡ anyOf (markOf stops routes (now (marks .entry))) ⌝ }
 {
-    match next_marked(marks, n, m, 0) {
+    match next_marked(marks, stops, routes, 0) {
         Next::At(_) => true,
         Next::Nothing => false,
     }
@@ -340,16 +341,16 @@ pub fn any_marked(marks: &[u64], n: u32, m: u32) -> bool
 // is tidy and leaves it so, and then the state that it leaves is all that there is to say (`does-unique`).
 
 // Every search begins with a new workspace, whatever was in it: no label, no mark, no parent.
-pub fn clear(words: &mut [u32], marks: &mut [u64], n: u32, m: u32, d: Direction)
-    requires { ⌜ Sized n m (now words) (now marks) ⌝ }
-    ensures { λ _. ⌜ Does n m (λ _. cleared n m d)
+pub fn clear(words: &mut [u32], marks: &mut [u64], stops: u32, routes: u32, d: Direction)
+    requires { ⌜ Sized stops routes (now words) (now marks) ⌝ }
+    ensures { λ _. ⌜ Does stops routes (λ _. cleared stops routes d)
         (now (words .entry)) (now (marks .entry)) (now (words .exit)) (now (marks .exit)) ⌝ }
 {
-    let a = 4 * (n as usize);
-    let b = a + m as usize;
-    let e = b + 90 * (n as usize);
-    let p = 2 * pages_of(n);
-    let q = p + pages_of(m);
+    let a = 4 * (stops as usize);
+    let b = a + routes as usize;
+    let e = b + 90 * (stops as usize);
+    let p = 2 * pages_of(stops);
+    let q = p + pages_of(routes);
     fill(words, 0, a, 0);
     fill(words, a, b, blank_of(d));
     fill(words, b, e, MAX);
@@ -357,13 +358,13 @@ pub fn clear(words: &mut [u32], marks: &mut [u64], n: u32, m: u32, d: Direction)
 }
 
 // A start stop gets the query moment as current label and a mark. Its best moment stays absent.
-pub fn start(words: &mut [u32], marks: &mut [u64], n: u32, m: u32, s: u32, t: Time)
-    requires { ⌜ Usable n m (now words) (now marks) ⌝ }
-    requires { ⌜ s < n ⌝ }
-    ensures { λ _. ⌜ Does n m (started s (t .0))
+pub fn start(words: &mut [u32], marks: &mut [u64], stops: u32, routes: u32, s: u32, t: Time)
+    requires { ⌜ Usable stops routes (now words) (now marks) ⌝ }
+    requires { ⌜ s < stops ⌝ }
+    ensures { λ _. ⌜ Does stops routes (started s (t .0))
         (now (words .entry)) (now (marks .entry)) (now (words .exit)) (now (marks .exit)) ⌝ }
 {
-    let at = n as usize + s as usize;
+    let at = stops as usize + s as usize;
     words[at] = t.0;
     marks::set_mark(marks, s as usize);
 }
@@ -371,25 +372,32 @@ pub fn start(words: &mut [u32], marks: &mut [u64], n: u32, m: u32, s: u32, t: Ti
 // ---- at the start of a round
 
 // The current labels become the previous ones, and no stop has a current label.
-pub fn swap_labels(words: &mut [u32], marks: &mut [u64], n: u32, m: u32)
-    requires { ⌜ Usable n m (now words) (now marks) ⌝ }
-    ensures { λ _. ⌜ Does n m (swapped n)
+pub fn swap_labels(words: &mut [u32], marks: &mut [u64], stops: u32, routes: u32)
+    requires { ⌜ Usable stops routes (now words) (now marks) ⌝ }
+    ensures { λ _. ⌜ Does stops routes (swapped stops)
         (now (words .entry)) (now (marks .entry)) (now (words .exit)) (now (marks .exit)) ⌝ }
 {
-    let a = n as usize;
+    let a = stops as usize;
     let e = 2 * a;
     copy(words, a, 0, a);
     fill(words, a, e, 0);
 }
 
 // Fills the routes' marks again, where the mode asks for it before every round.
-pub fn refill(words: &mut [u32], marks: &mut [u64], n: u32, m: u32, mode: Mode, d: Direction)
-    requires { ⌜ Usable n m (now words) (now marks) ⌝ }
-    ensures { λ _. ⌜ Does n m (refreshed mode m d)
+pub fn refill(
+    words: &mut [u32],
+    marks: &mut [u64],
+    stops: u32,
+    routes: u32,
+    mode: Mode,
+    d: Direction,
+)
+    requires { ⌜ Usable stops routes (now words) (now marks) ⌝ }
+    ensures { λ _. ⌜ Does stops routes (refreshed mode routes d)
         (now (words .entry)) (now (marks .entry)) (now (words .exit)) (now (marks .exit)) ⌝ }
 {
-    let a = 4 * (n as usize);
-    let e = a + m as usize;
+    let a = 4 * (stops as usize);
+    let e = a + routes as usize;
     match mode {
         Mode::Source => {}
         Mode::Rescan => fill(words, a, e, blank_of(d)),
@@ -397,13 +405,13 @@ pub fn refill(words: &mut [u32], marks: &mut [u64], n: u32, m: u32, mode: Mode, 
 }
 
 // No route is to be scanned.
-pub fn clear_mask(words: &mut [u32], marks: &mut [u64], n: u32, m: u32)
-    requires { ⌜ Usable n m (now words) (now marks) ⌝ }
-    ensures { λ _. ⌜ Does n m (unmasked m)
+pub fn clear_mask(words: &mut [u32], marks: &mut [u64], stops: u32, routes: u32)
+    requires { ⌜ Usable stops routes (now words) (now marks) ⌝ }
+    ensures { λ _. ⌜ Does stops routes (unmasked routes)
         (now (words .entry)) (now (marks .entry)) (now (words .exit)) (now (marks .exit)) ⌝ }
 {
-    let a = 2 * pages_of(n);
-    let e = a + pages_of(m);
+    let a = 2 * pages_of(stops);
+    let e = a + pages_of(routes);
     clear_part(marks, a, e);
 }
 
@@ -411,31 +419,39 @@ pub fn clear_mask(words: &mut [u32], marks: &mut [u64], n: u32, m: u32)
 pub fn begin_choosing(
     words: &mut [u32],
     marks: &mut [u64],
-    n: u32,
-    m: u32,
+    stops: u32,
+    routes: u32,
     mode: Mode,
     d: Direction,
 )
-    requires { ⌜ Usable n m (now words) (now marks) ⌝ }
-    ensures { λ _. ⌜ Does n m (λ v. unmasked m (refreshed mode m d v))
+    requires { ⌜ Usable stops routes (now words) (now marks) ⌝ }
+    ensures { λ _. ⌜ Does stops routes (λ w. unmasked routes (refreshed mode routes d w))
         (now (words .entry)) (now (marks .entry)) (now (words .exit)) (now (marks .exit)) ⌝ }
 {
-    refill(words, marks, n, m, mode, d);
-    clear_mask(words, marks, n, m);
+    refill(words, marks, stops, routes, mode, d);
+    clear_mask(words, marks, stops, routes);
 }
 
 // A route's mark moves to position p, and the route is scanned in this round, where p is sooner. The caller names the direction, so that
 // the compiler makes code for each of the two.
-fn activate_by(words: &mut [u32], marks: &mut [u64], n: u32, m: u32, d: Direction, r: u32, p: u32)
-    requires { ⌜ Usable n m (now words) (now marks) ⌝ }
-    requires { ⌜ r < m ⌝ }
-    ensures { λ _. ⌜ Does n m (activated d r p)
+fn activate_by(
+    words: &mut [u32],
+    marks: &mut [u64],
+    stops: u32,
+    routes: u32,
+    d: Direction,
+    r: u32,
+    p: u32,
+)
+    requires { ⌜ Usable stops routes (now words) (now marks) ⌝ }
+    requires { ⌜ r < routes ⌝ }
+    ensures { λ _. ⌜ Does stops routes (activated d r p)
         (now (words .entry)) (now (marks .entry)) (now (words .exit)) (now (marks .exit)) ⌝ }
 {
-    let mark = active_at(words, n, m, r);
+    let mark = active_at(words, stops, routes, r);
     if is_sooner(d, p, mark) {
-        let i = 4 * (n as usize) + r as usize;
-        let q = 2 * pages_of(n);
+        let i = 4 * (stops as usize) + r as usize;
+        let q = 2 * pages_of(stops);
         words[i] = p;
         marks::set_mark(marks, 64 * q + r as usize);
     }
@@ -443,39 +459,55 @@ fn activate_by(words: &mut [u32], marks: &mut [u64], n: u32, m: u32, d: Directio
 
 // A marked stop stands at position p of route r: the route's mark moves there, and the route is
 // scanned in this round, where p is sooner.
-pub fn activate(words: &mut [u32], marks: &mut [u64], n: u32, m: u32, d: Direction, r: u32, p: u32)
-    requires { ⌜ Usable n m (now words) (now marks) ⌝ }
-    requires { ⌜ r < m ⌝ }
-    ensures { λ _. ⌜ Does n m (activated d r p)
+pub fn activate(
+    words: &mut [u32],
+    marks: &mut [u64],
+    stops: u32,
+    routes: u32,
+    d: Direction,
+    r: u32,
+    p: u32,
+)
+    requires { ⌜ Usable stops routes (now words) (now marks) ⌝ }
+    requires { ⌜ r < routes ⌝ }
+    ensures { λ _. ⌜ Does stops routes (activated d r p)
         (now (words .entry)) (now (marks .entry)) (now (words .exit)) (now (marks .exit)) ⌝ }
 {
     match d {
-        Direction::Departure => activate_by(words, marks, n, m, Direction::Departure, r, p),
-        Direction::Arrival => activate_by(words, marks, n, m, Direction::Arrival, r, p),
+        Direction::Departure => activate_by(
+            words,
+            marks,
+            stops,
+            routes,
+            Direction::Departure,
+            r,
+            p,
+        ),
+        Direction::Arrival => activate_by(words, marks, stops, routes, Direction::Arrival, r, p),
     }
 }
 
 // No stop is marked.
-pub fn clear_marks(words: &mut [u32], marks: &mut [u64], n: u32, m: u32)
-    requires { ⌜ Usable n m (now words) (now marks) ⌝ }
-    ensures { λ _. ⌜ Does n m (unmarked n)
+pub fn clear_marks(words: &mut [u32], marks: &mut [u64], stops: u32, routes: u32)
+    requires { ⌜ Usable stops routes (now words) (now marks) ⌝ }
+    ensures { λ _. ⌜ Does stops routes (unmarked stops)
         (now (words .entry)) (now (marks .entry)) (now (words .exit)) (now (marks .exit)) ⌝ }
 {
-    let e = pages_of(n);
+    let e = pages_of(stops);
     clear_part(marks, 0, e);
 }
 
 // ---- within a round
 
 // Holds the current labels and the marks as the rides left them: footpaths are made from these.
-pub fn hold(words: &mut [u32], marks: &mut [u64], n: u32, m: u32)
-    requires { ⌜ Usable n m (now words) (now marks) ⌝ }
-    ensures { λ _. ⌜ Does n m holding
+pub fn hold(words: &mut [u32], marks: &mut [u64], stops: u32, routes: u32)
+    requires { ⌜ Usable stops routes (now words) (now marks) ⌝ }
+    ensures { λ _. ⌜ Does stops routes holding
         (now (words .entry)) (now (marks .entry)) (now (words .exit)) (now (marks .exit)) ⌝ }
 {
-    let a = n as usize;
+    let a = stops as usize;
     let b = 3 * a;
-    let p = pages_of(n);
+    let p = pages_of(stops);
     copy(words, a, b, a);
     copy_marks(marks, 0, p, p);
 }
@@ -517,19 +549,19 @@ fn put_leg(words: &mut [u32], i: usize, g: Leg)
 }
 
 // The stop is reached so in round k.
-fn store(words: &mut [u32], marks: &mut [u64], n: u32, m: u32, k: u32, o: Offer)
-    requires { ⌜ Usable n m (now words) (now marks) ⌝ }
-    requires { ⌜ o .stop < n ⌝ }
-    requires { ⌜ k < 15 ⌝ }
-    ensures { λ _. ⌜ Does n m (stored (k * n) (o .stop) (o .moment .0) (o .leg))
+fn store(words: &mut [u32], marks: &mut [u64], stops: u32, routes: u32, k: u32, offer: Offer)
+    requires { ⌜ Usable stops routes (now words) (now marks) ⌝ }
+    requires { ⌜ offer .stop < stops ⌝ }
+    requires { ⌜ k < MOST-ROUNDS ⌝ }
+    ensures { λ _. ⌜ Does stops routes (stored (k * stops) (offer .stop) (offer .moment .0) (offer .leg))
         (now (words .entry)) (now (marks .entry)) (now (words .exit)) (now (marks .exit)) ⌝ }
 {
-    let s = o.stop;
-    let t = o.moment;
-    let g = o.leg;
-    let a = n as usize + s as usize;
-    let b = 2 * (n as usize) + s as usize;
-    let i = row_at(n, m, k, s);
+    let s = offer.stop;
+    let t = offer.moment;
+    let g = offer.leg;
+    let a = stops as usize + s as usize;
+    let b = 2 * (stops as usize) + s as usize;
+    let i = row_at(stops, routes, k, s);
     words[a] = t.0;
     words[b] = t.0;
     put_leg(words, i, g);
@@ -537,15 +569,23 @@ fn store(words: &mut [u32], marks: &mut [u64], n: u32, m: u32, k: u32, o: Offer)
 }
 
 // The same where the moment is strictly better than the best one of the stop: a tie keeps the parent.
-pub fn apply(words: &mut [u32], marks: &mut [u64], n: u32, m: u32, d: Direction, k: u32, o: Offer)
-    requires { ⌜ Usable n m (now words) (now marks) ⌝ }
-    requires { ⌜ o .stop < n ⌝ }
-    requires { ⌜ k < 15 ⌝ }
-    ensures { λ _. ⌜ Does n m (applied d (k * n) (o .stop) (o .moment .0) (o .leg))
+pub fn apply(
+    words: &mut [u32],
+    marks: &mut [u64],
+    stops: u32,
+    routes: u32,
+    d: Direction,
+    k: u32,
+    offer: Offer,
+)
+    requires { ⌜ Usable stops routes (now words) (now marks) ⌝ }
+    requires { ⌜ offer .stop < stops ⌝ }
+    requires { ⌜ k < MOST-ROUNDS ⌝ }
+    ensures { λ _. ⌜ Does stops routes (applied d (k * stops) (offer .stop) (offer .moment .0) (offer .leg))
         (now (words .entry)) (now (marks .entry)) (now (words .exit)) (now (marks .exit)) ⌝ }
 {
-    let best = best_at(words, n, m, o.stop);
-    if is_better(d, o.moment, best) {
-        store(words, marks, n, m, k, o);
+    let best = best_at(words, stops, routes, offer.stop);
+    if is_better(d, offer.moment, best) {
+        store(words, marks, stops, routes, k, offer);
     }
 }

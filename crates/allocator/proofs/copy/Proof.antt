@@ -9,10 +9,10 @@ use Rattle.allocator.proofs.copy.Statement.{statement}
 use Rattle.allocator.proofs.copy.Tie as tie
 
 abbrev Inv-loop : tie.InvT-loop
-Inv-loop words₀ a b n i₀ words i = Copied a b words₀ words i × (i ≤ n) × (length words ≡ length words₀)
+Inv-loop words₀ a b count i₀ words i = Copied a b words₀ words i × (i ≤ count) × (length words ≡ length words₀)
 
 abbrev μ-loop : tie.MeasureT-loop
-μ-loop words₀ a b n i₀ words i = n - i
+μ-loop words₀ a b count i₀ words i = count - i
 
 loop-holds : tie.Need-loop-holds Inv-loop μ-loop
 loop-holds c = (search (needs, copy-start), search needs, search needs)

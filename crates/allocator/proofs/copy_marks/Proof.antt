@@ -9,10 +9,10 @@ use Rattle.allocator.proofs.copy_marks.Statement.{statement}
 use Rattle.allocator.proofs.copy_marks.Tie as tie
 
 abbrev Inv-loop : tie.InvT-loop
-Inv-loop marks₀ a b n i₀ marks i = Copied a b marks₀ marks i × (i ≤ n) × (length marks ≡ length marks₀)
+Inv-loop marks₀ a b count i₀ marks i = Copied a b marks₀ marks i × (i ≤ count) × (length marks ≡ length marks₀)
 
 abbrev μ-loop : tie.MeasureT-loop
-μ-loop marks₀ a b n i₀ marks i = n - i
+μ-loop marks₀ a b count i₀ marks i = count - i
 
 loop-holds : tie.Need-loop-holds Inv-loop μ-loop
 loop-holds c = (search (needs, copy-start), search needs, search needs)
