@@ -75,7 +75,7 @@ applyAll-ahead d before [] l a = a
 applyAll-ahead d before (p ∷ ps) l a = applyAll-ahead d before ps _ (apply1-ahead d before (p .stop) (p .moment) l a)
 
 -- a proposal that does not win changes nothing
-idle : (d : Direction) (row s m : ℕ) (g : Leg) (w : Work) → wins d s m (w .labels) ≡ false → applied d row s m g w ≡ w
+pub idle : (d : Direction) (row s m : ℕ) (g : Leg) (w : Work) → wins d s m (w .labels) ≡ false → applied d row s m g w ≡ w
 unfolding applied
 idle d row s m g w e = rw (apply1-off d s m (w .labels) e, e)
 

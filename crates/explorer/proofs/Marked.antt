@@ -14,24 +14,24 @@ use Rattle.allocator.proofs.Tabulated.{tab-length}
 use Rattle.allocator.proofs.Visited.{after-from, after-below}
 
 -- as many flags as stops
-pub mark-long : (n m : ℕ) (q : List ℕ) → length (markOf n m q) ≡ n
+pub mark-long : (stops routes : ℕ) (ms : List ℕ) → length (markOf stops routes ms) ≡ stops
 unfolding markOf flags
-mark-long n m q = tab-length (marked _) n 0
+mark-long stops routes ms = tab-length (marked _) stops 0
 
-pub held-long : (n m : ℕ) (q : List ℕ) → length (heldMarkOf n m q) ≡ n
+pub held-long : (stops routes : ℕ) (ms : List ℕ) → length (heldMarkOf stops routes ms) ≡ stops
 unfolding heldMarkOf flags
-held-long n m q = tab-length (marked _) n 0
+held-long stops routes ms = tab-length (marked _) stops 0
 
 -- s is the first stop from i on whose flag is set, a the answer that says so
-module _ (i : ℕ) (fs : List Bool) {n s : ℕ} {a : Next} (e : a ≡ firstOf (after i fs)) (f : a ≡ At s)
-    (long : length fs ≡ n) where
-  pub visit-below : s < n
+module _ (i : ℕ) (fs : List Bool) {stops s : ℕ} {a : Next} (e : a ≡ firstOf (after i fs)) (f : a ≡ At s)
+    (long : length fs ≡ stops) where
+  pub visit-below : s < stops
   visit-below = omega (arith, after-below i fs (sym f ∙ e))
 
-  pub visit-less : n - (s + 1) < n - i
+  pub visit-less : stops - (s + 1) < stops - i
   visit-less = omega (arith, visit-below, after-from i fs (sym f ∙ e))
 
-  module _ {m : ℕ} {w q : List ℕ} (z : Sized n m w q) where
+  module _ {routes : ℕ} {ws ms : List ℕ} (z : Sized stops routes ws ms) where
     pub visit-fits : s < 4_294_967_296
     visit-fits = omega (arith, visit-below, z .words .most-stops)
 

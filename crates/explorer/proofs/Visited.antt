@@ -19,9 +19,9 @@ unfolding setIn
 drops P zero j fs h = rw (add-zero j) h
 drops P (suc i) j [] h = nil
 drops P (suc i) j (true ∷ fs) (cons p h) =
-    subst (λ (o : ℕ). Each P (setIn o (drop i fs))) (omega arith) (drops P i (suc j) fs h)
+    subst (λ (x : ℕ). Each P (setIn x (drop i fs))) (omega arith) (drops P i (suc j) fs h)
 drops P (suc i) j (false ∷ fs) h =
-    subst (λ (o : ℕ). Each P (setIn o (drop i fs))) (omega arith) (drops P i (suc j) fs h)
+    subst (λ (x : ℕ). Each P (setIn x (drop i fs))) (omega arith) (drops P i (suc j) fs h)
 
 later : (P : ℕ → Type 0) (i : ℕ) (fs : List Bool) → Each P (setIn 0 fs) → Each P (after i fs)
 unfolding after

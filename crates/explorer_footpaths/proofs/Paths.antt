@@ -23,18 +23,18 @@ path-start f r a b x e = record { rest = ap (λ (l : List Foot). inTurn f l x) (
 pub row-here : (l : Listing) {w : List ℕ} {o : Round} {s x j b : ℕ} → Leaving w o s x → firstRow l w s ≤ j → j < b
     → b ≡ pastRow l w s
     → OfStop l w s j
-row-here l h from g eb = of-stop l (omega (arith, h .stop, h .round .fixed .stops)) refl from eb g
+row-here l h from g eb = of-stop l (omega (arith, h .stop, h .round .fixed .net-stops)) refl from eb g
 
 module _ {w : List ℕ} {o : Round} {s x j u : ℕ} (h : Leaving w o s x) where
   pub transfer-in : OfStop transfers w s j → u ≡ (transferRow w j) .to → u < o .stops
-  transfer-in y e = omega (arith, transfer-known (h .round .fixed .searchable) y e, h .round .fixed .stops)
+  transfer-in y e = omega (arith, transfer-known (h .round .fixed .searchable) y e, h .round .fixed .net-stops)
 
   pub transfer-most : OfStop transfers w s j → u ≡ (transferRow w j) .span → u ≤ 86_400
   transfer-most y e = transfer-short (h .round .fixed .searchable) (row-known transfers (h .round .fixed .searchable .laid) y) e
 
   pub walk-in : OfStop walks w s j → u ≡ (walkRow w j) .to → u < o .stops
   walk-in y e =
-      omega (arith, walk-known (h .round .fixed .searchable) (row-known walks (h .round .fixed .searchable .laid) y) e, h .round .fixed .stops)
+      omega (arith, walk-known (h .round .fixed .searchable) (row-known walks (h .round .fixed .searchable .laid) y) e, h .round .fixed .net-stops)
 
   pub walk-most : OfStop walks w s j → u ≡ (walkRow w j) .span → u ≤ 86_400
   walk-most y e = walk-short (h .round .fixed .searchable) (row-known walks (h .round .fixed .searchable .laid) y) e

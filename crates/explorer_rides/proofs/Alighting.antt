@@ -85,7 +85,7 @@ module _ {w stops : List ℕ} {o : Round} {here : Call} {a : Ride} (h : Riding w
   unfolding alightWork rideLeg
   alight-on e x =
       let is = reach-is w (a .trip) (here .position) ((seat-on z e) .times) (o .direction) refl in
-      rw (aboard-on a e, q .stop, h .round .fixed .stops, is)
+      rw (aboard-on a e, q .stop, h .round .fixed .net-stops, is)
 
   module _ (ws : List ℕ) {seen : Seen}
       (f : seen ≡ lookAt (o .direction) w (o .target .0) (getD (bestOf (o .stops) (o .routes) ws) (here .stop) 0) here a) where

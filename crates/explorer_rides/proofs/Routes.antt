@@ -31,7 +31,7 @@ use Rattle.explorer_rides.proofs.Unchanged.{route-mask, route-active}
 -- ---- one route
 riding : {w stops : List ℕ} {o : Round} {r : ℕ} → InRound w o → r < o .routes
     → stops ≡ tab (netOf w .stopAt r) (netOf w .positions r) 0 → Riding w o r stops
-riding h l e = record { round = h; route = rw (h .fixed .routes) at l; along = e }
+riding h l e = record { round = h; route = rw (h .fixed .net-routes) at l; along = e }
 
 pub rideable : {w stops : List ℕ} {o : Round} {r : ℕ} → InRound w o → r < o .routes
     → stops ≡ tab (netOf w .stopAt r) (netOf w .positions r) 0 → Rideable w o r stops
@@ -77,7 +77,7 @@ module _ (o : Round) (ms : List ℕ) (i : ℕ) {r : ℕ} {x : Next}
     (e : x ≡ firstOf (after i (maskOf (o .stops) (o .routes) ms))) (f : x ≡ At r) {w : List ℕ} (h : InRound w o) where
   pub next-fits : r < 4_294_967_296
   unfolding netOf
-  next-fits = omega (arith, next-below (o .stops) (o .routes) ms i e f, h .fixed .routes, h .fixed .searchable .laid .routes-limit)
+  next-fits = omega (arith, next-below (o .stops) (o .routes) ms i e f, h .fixed .net-routes, h .fixed .searchable .laid .routes-limit)
 
   pub next-room : r + 1 < 18_446_744_073_709_551_616
   next-room = omega (arith, next-fits)

@@ -37,7 +37,7 @@ module _ {w stops : List ℕ} {o : Round} {r : ℕ} (h : Riding w o r stops) whe
 
 pub call-in : {w stops : List ℕ} {o : Round} {here : Call} → Riding w o (here .route) stops → OnRoute w here
     → here .stop < o .stops
-call-in h q = rw (h .round .fixed .stops) (stop-known (q .searchable) (q .route) (q .position) (q .stop))
+call-in h q = rw (h .round .fixed .net-stops) (stop-known (q .searchable) (q .route) (q .position) (q .stop))
 
 -- ---- the trip aboard
 module _ {w : List ℕ} {r : ℕ} {ride : Ride} (s : Seat w r ride) where

@@ -73,7 +73,7 @@ pub posed-of : {t : List ℕ} {q : Query} {a : Ask} {k : ℕ} → Accepted t →
     → Posed t q a
 posed-of h e f z = record {
   known = λ u. h;
-  tabled = record { known = λ u. record { searchable = accepted-searchable h; stops = ask-stops _ _ e; routes = ask-routes _ _ e } };
+  tabled = record { known = λ u. record { searchable = accepted-searchable h; net-stops = ask-stops _ _ e; net-routes = ask-routes _ _ e } };
   asks = e;
   unrefused = sym f ∙ z;
 }
@@ -83,10 +83,10 @@ module _ {t : List ℕ} {q : Query} {a : Ask} (p : Posed t q a) where
   posed-accepted = p .known tt
 
   pub posed-stops : a .stops ≡ netOf t .stops
-  posed-stops = p .tabled .known tt .stops
+  posed-stops = p .tabled .known tt .net-stops
 
   pub posed-routes : a .routes ≡ netOf t .routes
-  posed-routes = p .tabled .known tt .routes
+  posed-routes = p .tabled .known tt .net-routes
 
   pub posed-direction : a .direction ≡ directionOf (q .time)
   unfolding askOf

@@ -65,7 +65,7 @@ module _ {tables : List ℕ} {n m : ℕ} {d : Direction} {mode : Mode} {walking 
       → stateOf (view n m w₁ y₁) g ≡ search (netOf tables) (task d mode walking ss gs t) listed
   unfolding view
   at-end lt eb is u =
-      search-ends (netOf tables) d mode walking ss gs t (h .rounds) lt eb is (rw (← (h .tabled .known tt .stops)) (u .holds))
+      search-ends (netOf tables) d mode walking ss gs t (h .rounds) lt eb is (rw (← (h .tabled .known tt .net-stops)) (u .holds))
 
   pub at-all : 15 ≤ k → stateOf (view n m w y) g ≡ search (netOf tables) (task d mode walking ss gs t) listed
   at-all le = search-done (netOf tables) d mode walking ss gs t (h .rounds) le
@@ -94,6 +94,6 @@ at-start {tables} a {ss = ss} {gs = gs} b =
       goals = b .goals-in;
       rounds =
           search-start (netOf tables) (a .direction) (a .mode) (a .walking) ss gs (a .moment .0) (searchable-sound (x .searchable))
-          (rw (← (x .stops)) (b .starts-in)) (rw (← (x .stops)) (b .goals-in)) (b .moment) refl
-          (rw (← (x .stops), ← (x .routes)) (b .holds));
+          (rw (← (x .net-stops)) (b .starts-in)) (rw (← (x .net-stops)) (b .goals-in)) (b .moment) refl
+          (rw (← (x .net-stops), ← (x .net-routes)) (b .holds));
     }

@@ -57,10 +57,10 @@ module _ {s r : ℕ} {w m w₁ m₁ : List ℕ} (holds : Does s r holding w m w�
 module _ (t : List ℕ) (d : Direction) (mode : Mode) (walking : Bool) (k target : ℕ) {s r : ℕ} {w m w₁ m₁ : List ℕ}
     (rides : Does s r (λ v. ridesWork d (netOf t) k target (openedBy mode d (netOf t) v)) w m w₁ m₁) where
   pub ready-footing : Tabled t s r → Ready d mode walking (netOf t) k target (view s r w m) → Footing s (holding (view s r w₁ m₁))
-  ready-footing x h = rw (x .known tt .stops) (subst (λ (v : Work). Footing (netOf t .stops) (holding v)) (sym (as-net x)) (h .footing))
+  ready-footing x h = rw (x .known tt .net-stops) (subst (λ (v : Work). Footing (netOf t .stops) (holding v)) (sym (as-net x)) (h .footing))
     where
       as-net : Tabled t s r → view (netOf t .stops) r w₁ m₁ ≡ ridesWork d (netOf t) k target (openedBy mode d (netOf t) (view s r w m))
-      as-net x = subst (λ (i : ℕ). view i r w₁ m₁ ≡ ridesWork d (netOf t) k target (openedBy mode d (netOf t) (view s r w m))) (x .known tt .stops) (rides .holds)
+      as-net x = subst (λ (i : ℕ). view i r w₁ m₁ ≡ ridesWork d (netOf t) k target (openedBy mode d (netOf t) (view s r w m))) (x .known tt .net-stops) (rides .holds)
 
   pub round-does : {w₂ m₂ : List ℕ} → Does s r (λ v. feetWork d (netOf t) k target walking (holding v)) w₁ m₁ w₂ m₂
       → Does s r (roundWork d mode walking (netOf t) k target) w m w₂ m₂
