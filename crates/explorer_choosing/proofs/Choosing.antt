@@ -49,13 +49,13 @@ route-start d w s x e f = record {
       ∙ sym (routes-turn d (netOf w) s (netOf w .routesOf s) x);
 }
 
-module _ {w : List ℕ} {n s j b : ℕ} (h : Searchable w) (en : n ≡ netOf w .stops) (i : s < n)
+module _ {w : List ℕ} {stops s j b : ℕ} (h : Searchable w) (e-stops : stops ≡ netOf w .stops) (i : s < stops)
     (from : firstRow calls w s ≤ j) (l : j < b) (eb : b ≡ pastRow calls w s) where
   here : OfStop calls w s j
   here = of-stop calls (omega arith) refl from eb l
 
-  pub route-in : {m r : ℕ} → m ≡ netOf w .routes → r ≡ callRoute w j → r < m
-  route-in em er = omega (arith, route-known h here er)
+  pub route-in : {routes r : ℕ} → routes ≡ netOf w .routes → r ≡ callRoute w j → r < routes
+  route-in e-routes er = omega (arith, route-known h here er)
 
   pub route-next : (d : Direction) {goal x y : Work} {r p : ℕ}
       → Turn (chosenBy d (netOf w) s) goal (rest (callRoute w) j b) x
@@ -67,22 +67,22 @@ module _ {w : List ℕ} {n s j b : ℕ} (h : Searchable w) (en : n ≡ netOf w .
   route-next d t er ep ey = row-next (callRoute w) j b t l (ey ∙ rw (er, ep s here))
 
 -- ---- the marked stops; choosing does not change which these are
-module _ (d : Direction) (t : Net) (n m : ℕ) where
-  pub stop-start : (w q : List ℕ) → Turn (chosenAt d t) (chosenAll d t (view n m w q)) (after 0 (markOf n m q)) (view n m w q)
+module _ (d : Direction) (n : Net) (stops routes : ℕ) where
+  pub stop-start : (ws ms : List ℕ) → Turn (chosenAt d n) (chosenAll d n (view stops routes ws ms)) (after 0 (markOf stops routes ms)) (view stops routes ws ms)
   unfolding chosenAll view
-  stop-start w q = record {
+  stop-start ws ms = record {
     rest =
-        (mark-start (chosenAt d t) (markOf n m q) (view n m w q)) .rest
-        ∙ sym (stops-turn d t (setIn 0 (markOf n m q)) (view n m w q));
+        (mark-start (chosenAt d n) (markOf stops routes ms) (view stops routes ws ms)) .rest
+        ∙ sym (stops-turn d n (setIn 0 (markOf stops routes ms)) (view stops routes ws ms));
   }
 
-  module _ (i : ℕ) (w q : List ℕ) {goal : Work} {a : Next}
-      (o : Turn (chosenAt d t) goal (after i (markOf n m q)) (view n m w q))
-      (e : a ≡ firstOf (after i (markOf n m q))) where
-    pub stop-next : (v p : List ℕ) {s : ℕ} → a ≡ At s → view n m v p ≡ chosenAt d t s (view n m w q)
-        → Turn (chosenAt d t) goal (after (s + 1) (markOf n m p)) (view n m v p)
+  module _ (i : ℕ) (ws ms : List ℕ) {goal : Work} {a : Next}
+      (turn : Turn (chosenAt d n) goal (after i (markOf stops routes ms)) (view stops routes ws ms))
+      (e : a ≡ firstOf (after i (markOf stops routes ms))) where
+    pub stop-next : (ws′ ms′ : List ℕ) {s : ℕ} → a ≡ At s → view stops routes ws′ ms′ ≡ chosenAt d n s (view stops routes ws ms)
+        → Turn (chosenAt d n) goal (after (s + 1) (markOf stops routes ms′)) (view stops routes ws′ ms′)
     unfolding view chosenAt withChosen withActive withMask
-    stop-next v p {s} f g =
-        let same : markOf n m p ≡ markOf n m q = ap (λ (x : Work). x .labels .mark) g in
-        subst (λ (l : List Bool). Turn (chosenAt d t) goal (after (s + 1) l) (view n m v p)) (sym same)
-        (mark-next i (markOf n m q) o e f g)
+    stop-next ws′ ms′ {s} f g =
+        let same : markOf stops routes ms′ ≡ markOf stops routes ms = ap (λ (x : Work). x .labels .mark) g in
+        subst (λ (l : List Bool). Turn (chosenAt d n) goal (after (s + 1) l) (view stops routes ws′ ms′)) (sym same)
+        (mark-next i (markOf stops routes ms) turn e f g)

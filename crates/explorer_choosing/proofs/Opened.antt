@@ -21,20 +21,20 @@ pub opened-by : (n : Net) (q : Task) (w : Work) → openedWork n q w ≡ openedB
 unfolding openedBy openedWork opened picks
 opened-by n q w = refl
 
-module _ (t : Net) where
+module _ (n : Net) where
   steps : (mode : Mode) (d : Direction) (w : Work)
-      → unmarked (t .stops) (chosenAll d t (unmasked (t .routes) (refreshed mode (t .routes) d (swapped (t .stops) w))))
-      ≡ openedBy mode d t w
+      → unmarked (n .stops) (chosenAll d n (unmasked (n .routes) (refreshed mode (n .routes) d (swapped (n .stops) w))))
+      ≡ openedBy mode d n w
   unfolding unmarked chosenAll unmasked refreshed swapped openedBy openedWork opened picks refilled fresh blank withPrev withCurr withMarks withActive withMask withChosen chosenOf
   steps Source d w = refl
   steps Rescan Departure w = refl
   steps Rescan Arrival w = refl
 
-pub opened-steps : (t : Net) (mode : Mode) (d : Direction) (w : Work) {n m : ℕ} {x y z : Work} → n ≡ t .stops → m ≡ t .routes
-    → x ≡ swapped n w
-    → y ≡ chosenAll d t (unmasked m (refreshed mode m d x)) → z ≡ unmarked n y → z ≡ openedBy mode d t w
-opened-steps t mode d w en em ex ey ez = ez ∙ rw (ey, ex, en, em) (steps t mode d w)
+pub opened-steps : (n : Net) (mode : Mode) (d : Direction) (w : Work) {stops routes : ℕ} {x y z : Work} → stops ≡ n .stops → routes ≡ n .routes
+    → x ≡ swapped stops w
+    → y ≡ chosenAll d n (unmasked routes (refreshed mode routes d x)) → z ≡ unmarked stops y → z ≡ openedBy mode d n w
+opened-steps n mode d w e-stops e-routes ex ey ez = ez ∙ rw (ey, ex, e-stops, e-routes) (steps n mode d w)
 
 -- routes chosen after another operation
-pub chosen-after : (d : Direction) (t : Net) {v x y : Work} → v ≡ chosenAll d t x → x ≡ y → v ≡ chosenAll d t y
-chosen-after d t e f = e ∙ ap (chosenAll d t) f
+pub chosen-after : (d : Direction) (n : Net) {z x y : Work} → z ≡ chosenAll d n x → x ≡ y → z ≡ chosenAll d n y
+chosen-after d n e f = e ∙ ap (chosenAll d n) f

@@ -14,15 +14,15 @@ fn choose_at(
     tables: &[u32],
     words: &mut [u32],
     marks: &mut [u64],
-    n: u32,
-    m: u32,
+    stops: u32,
+    routes: u32,
     d: Direction,
     s: u32,
 )
-    requires { ⌜ Fixed (now tables) n m ⌝ }
-    requires { ⌜ Usable n m (now words) (now marks) ⌝ }
-    requires { ⌜ s < n ⌝ }
-    ensures { λ _. ⌜ Does n m (chosenAt d (netOf (now (tables .entry))) s)
+    requires { ⌜ Fixed (now tables) stops routes ⌝ }
+    requires { ⌜ Usable stops routes (now words) (now marks) ⌝ }
+    requires { ⌜ s < stops ⌝ }
+    ensures { λ _. ⌜ Does stops routes (chosenAt d (netOf (now (tables .entry))) s)
         (now (words .entry)) (now (marks .entry)) (now (words .exit)) (now (marks .exit)) ⌝ }
 {
     let end = repository::calls::calls_to(tables, s);
@@ -30,7 +30,7 @@ fn choose_at(
     while j < end {
         let r = repository::calls::call_route(tables, j);
         let p = discovery::index_in_route(tables, j);
-        allocator::activate(words, marks, n, m, d, r, p);
+        allocator::activate(words, marks, stops, routes, d, r, p);
         j += 1;
     }
 }
@@ -40,20 +40,20 @@ pub fn choose_routes(
     tables: &[u32],
     words: &mut [u32],
     marks: &mut [u64],
-    n: u32,
-    m: u32,
+    stops: u32,
+    routes: u32,
     d: Direction,
 )
-    requires { ⌜ Fixed (now tables) n m ⌝ }
-    requires { ⌜ Usable n m (now words) (now marks) ⌝ }
-    ensures { λ _. ⌜ Does n m (chosenAll d (netOf (now (tables .entry))))
+    requires { ⌜ Fixed (now tables) stops routes ⌝ }
+    requires { ⌜ Usable stops routes (now words) (now marks) ⌝ }
+    ensures { λ _. ⌜ Does stops routes (chosenAll d (netOf (now (tables .entry))))
         (now (words .entry)) (now (marks .entry)) (now (words .exit)) (now (marks .exit)) ⌝ }
 {
     let mut at: usize = 0;
     loop {
-        match allocator::next_marked(marks, n, m, at) {
+        match allocator::next_marked(marks, stops, routes, at) {
             Next::At(s) => {
-                choose_at(tables, words, marks, n, m, d, s as u32);
+                choose_at(tables, words, marks, stops, routes, d, s as u32);
                 at = s + 1;
             }
             Next::Nothing => return,
@@ -66,18 +66,18 @@ fn choose_anew(
     tables: &[u32],
     words: &mut [u32],
     marks: &mut [u64],
-    n: u32,
-    m: u32,
+    stops: u32,
+    routes: u32,
     mode: Mode,
     d: Direction,
 )
-    requires { ⌜ Fixed (now tables) n m ⌝ }
-    requires { ⌜ Usable n m (now words) (now marks) ⌝ }
-    ensures { λ _. ⌜ Does n m (λ v. chosenAll d (netOf (now (tables .entry))) (unmasked m (refreshed mode m d v)))
+    requires { ⌜ Fixed (now tables) stops routes ⌝ }
+    requires { ⌜ Usable stops routes (now words) (now marks) ⌝ }
+    ensures { λ _. ⌜ Does stops routes (λ x. chosenAll d (netOf (now (tables .entry))) (unmasked routes (refreshed mode routes d x)))
         (now (words .entry)) (now (marks .entry)) (now (words .exit)) (now (marks .exit)) ⌝ }
 {
-    allocator::begin_choosing(words, marks, n, m, mode, d);
-    choose_routes(tables, words, marks, n, m, d);
+    allocator::begin_choosing(words, marks, stops, routes, mode, d);
+    choose_routes(tables, words, marks, stops, routes, d);
 }
 
 // A round up to its rides. Whether any stop is marked, the caller asks before.
@@ -85,17 +85,17 @@ pub fn open_round(
     tables: &[u32],
     words: &mut [u32],
     marks: &mut [u64],
-    n: u32,
-    m: u32,
+    stops: u32,
+    routes: u32,
     mode: Mode,
     d: Direction,
 )
-    requires { ⌜ Fixed (now tables) n m ⌝ }
-    requires { ⌜ Usable n m (now words) (now marks) ⌝ }
-    ensures { λ _. ⌜ Does n m (openedBy mode d (netOf (now (tables .entry))))
+    requires { ⌜ Fixed (now tables) stops routes ⌝ }
+    requires { ⌜ Usable stops routes (now words) (now marks) ⌝ }
+    ensures { λ _. ⌜ Does stops routes (openedBy mode d (netOf (now (tables .entry))))
         (now (words .entry)) (now (marks .entry)) (now (words .exit)) (now (marks .exit)) ⌝ }
 {
-    allocator::swap_labels(words, marks, n, m);
-    choose_anew(tables, words, marks, n, m, mode, d);
-    allocator::clear_marks(words, marks, n, m);
+    allocator::swap_labels(words, marks, stops, routes);
+    choose_anew(tables, words, marks, stops, routes, mode, d);
+    allocator::clear_marks(words, marks, stops, routes);
 }

@@ -16,14 +16,14 @@ use Rattle.explorer_choosing.proofs.choose_at.Statement.{statement}
 use Rattle.explorer_choosing.proofs.choose_at.Tie as tie
 
 abbrev Inv-loop : tie.InvT-loop
-Inv-loop tables words₀ marks₀ n m d s end j₀ words marks j =
-    Turn (chosenBy d (netOf tables) s) (chosenAt d (netOf tables) s (view n m words₀ marks₀)) (rest (callRoute tables) j end)
-    (view n m words marks)
-    × (firstRow calls tables s ≤ j) × Usable n m words marks
+Inv-loop tables words₀ marks₀ stops routes d s end j₀ words marks j =
+    Turn (chosenBy d (netOf tables) s) (chosenAt d (netOf tables) s (view stops routes words₀ marks₀)) (rest (callRoute tables) j end)
+    (view stops routes words marks)
+    × (firstRow calls tables s ≤ j) × Usable stops routes words marks
     × (length words ≡ length words₀) × (length marks ≡ length marks₀)
 
 abbrev μ-loop : tie.MeasureT-loop
-μ-loop tables words₀ marks₀ n m d s end j₀ words marks j = end - j
+μ-loop tables words₀ marks₀ stops routes d s end j₀ words marks j = end - j
 
 calls-to-requires : tie.Need-calls-to-requires Inv-loop μ-loop
 calls-to-requires c κs = search needs

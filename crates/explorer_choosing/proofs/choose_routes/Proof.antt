@@ -16,13 +16,13 @@ use Rattle.explorer_choosing.proofs.choose_routes.Statement.{statement}
 use Rattle.explorer_choosing.proofs.choose_routes.Tie as tie
 
 abbrev Inv-loop : tie.InvT-loop
-Inv-loop tables words₀ marks₀ n m d at₀ words marks at =
-    Turn (chosenAt d (netOf tables)) (chosenAll d (netOf tables) (view n m words₀ marks₀))
-    (after at (markOf n m marks)) (view n m words marks)
-    × Usable n m words marks × (length words ≡ length words₀) × (length marks ≡ length marks₀)
+Inv-loop tables words₀ marks₀ stops routes d at₀ words marks at =
+    Turn (chosenAt d (netOf tables)) (chosenAll d (netOf tables) (view stops routes words₀ marks₀))
+    (after at (markOf stops routes marks)) (view stops routes words marks)
+    × Usable stops routes words marks × (length words ≡ length words₀) × (length marks ≡ length marks₀)
 
 abbrev μ-loop : tie.MeasureT-loop
-μ-loop tables words₀ marks₀ n m d at₀ words marks at = n - at
+μ-loop tables words₀ marks₀ stops routes d at₀ words marks at = stops - at
 
 loop-holds : tie.Need-loop-holds Inv-loop μ-loop
 loop-holds c = (search (needs, stop-start), search needs, search needs, search needs)
