@@ -50,12 +50,12 @@ lost d row target s m g w e = go (ahead d m target)
     go true = rw e
     go false = refl
 
-pub path-lost : (o : Round) (c : LegType) (r : Foot) (t w y : List ℕ) {s x to : ℕ} {b : Bool} → Leaving t o s x
-    → to ≡ r .to → b ≡ better (o .direction) x (getD (bestOf (o .stops) (o .routes) w) to 0) → b ≡ false
-    → view (o .stops) (o .routes) w y
-    ≡ footFrom (o .direction) (o .stops) (o .number) (o .target .0) c s x r (view (o .stops) (o .routes) w y)
+pub path-lost : (round : Round) (c : LegType) (foot : Foot) (w ws ms : List ℕ) {s x to : ℕ} {b : Bool} → Leaving w round s x
+    → to ≡ foot .to → b ≡ better (round .direction) x (getD (bestOf (round .stops) (round .routes) ws) to 0) → b ≡ false
+    → view (round .stops) (round .routes) ws ms
+    ≡ footFrom (round .direction) (round .stops) (round .number) (round .target .0) c s x foot (view (round .stops) (round .routes) ws ms)
 unfolding footFrom view
-path-lost o c r t w y {s} {x} {to} h et eb f =
-    let e : better (o .direction) x (getD (bestOf (o .stops) (o .routes) w) (r .to) 0) ≡ false = rw (← et) (sym eb ∙ f) in
-    lost (o .direction) (o .number * o .stops) (o .target .0) (r .to) _ _ (view (o .stops) (o .routes) w y)
-    (worse-on (o .direction) x (r .span) _ (h .label .some) e)
+path-lost round c foot w ws ms {s} {x} {to} h et eb f =
+    let e : better (round .direction) x (getD (bestOf (round .stops) (round .routes) ws) (foot .to) 0) ≡ false = rw (← et) (sym eb ∙ f) in
+    lost (round .direction) (round .number * round .stops) (round .target .0) (foot .to) _ _ (view (round .stops) (round .routes) ws ms)
+    (worse-on (round .direction) x (foot .span) _ (h .label .some) e)

@@ -20,27 +20,27 @@ pub path-start : (f : Foot → Work → Work) (r : ℕ → Foot) (a b : ℕ) (x 
 path-start f r a b x e = record { rest = ap (λ (l : List Foot). inTurn f l x) (sym e) }
 
 -- ---- a row of stop s, where it leads, and how long it takes
-pub row-here : (l : Listing) {w : List ℕ} {o : Round} {s x j b : ℕ} → Leaving w o s x → firstRow l w s ≤ j → j < b
+pub row-here : (l : Listing) {w : List ℕ} {round : Round} {s x j b : ℕ} → Leaving w round s x → firstRow l w s ≤ j → j < b
     → b ≡ pastRow l w s
     → OfStop l w s j
-row-here l h from g eb = of-stop l (omega (arith, h .stop, h .round .fixed .net-stops)) refl from eb g
+row-here l h from g eb = of-stop l (omega (arith, h .stop, h .in-round .fixed .net-stops)) refl from eb g
 
-module _ {w : List ℕ} {o : Round} {s x j u : ℕ} (h : Leaving w o s x) where
-  pub transfer-in : OfStop transfers w s j → u ≡ (transferRow w j) .to → u < o .stops
-  transfer-in y e = omega (arith, transfer-known (h .round .fixed .searchable) y e, h .round .fixed .net-stops)
+module _ {w : List ℕ} {round : Round} {s x j u : ℕ} (h : Leaving w round s x) where
+  pub transfer-in : OfStop transfers w s j → u ≡ (transferRow w j) .to → u < round .stops
+  transfer-in y e = omega (arith, transfer-known (h .in-round .fixed .searchable) y e, h .in-round .fixed .net-stops)
 
   pub transfer-most : OfStop transfers w s j → u ≡ (transferRow w j) .span → u ≤ 86_400
-  transfer-most y e = transfer-short (h .round .fixed .searchable) (row-known transfers (h .round .fixed .searchable .laid) y) e
+  transfer-most y e = transfer-short (h .in-round .fixed .searchable) (row-known transfers (h .in-round .fixed .searchable .laid) y) e
 
-  pub walk-in : OfStop walks w s j → u ≡ (walkRow w j) .to → u < o .stops
+  pub walk-in : OfStop walks w s j → u ≡ (walkRow w j) .to → u < round .stops
   walk-in y e =
-      omega (arith, walk-known (h .round .fixed .searchable) (row-known walks (h .round .fixed .searchable .laid) y) e, h .round .fixed .net-stops)
+      omega (arith, walk-known (h .in-round .fixed .searchable) (row-known walks (h .in-round .fixed .searchable .laid) y) e, h .in-round .fixed .net-stops)
 
   pub walk-most : OfStop walks w s j → u ≡ (walkRow w j) .span → u ≤ 86_400
-  walk-most y e = walk-short (h .round .fixed .searchable) (row-known walks (h .round .fixed .searchable .laid) y) e
+  walk-most y e = walk-short (h .in-round .fixed .searchable) (row-known walks (h .in-round .fixed .searchable .laid) y) e
 
 -- a footpath by what was read of its row
-pub row-path : (d : Direction) (n k target : ℕ) (c : LegType) (s x : ℕ) (r : Foot) (v : Work) {to span : ℕ} {u : Work}
-    → u ≡ footFrom d n k target c s x (record { to = to; span = span }) v → to ≡ r .to → span ≡ r .span
-    → u ≡ footFrom d n k target c s x r v
-row-path d n k target c s x r v eu et es = eu ∙ rw (et, es)
+pub row-path : (d : Direction) (stops k target : ℕ) (c : LegType) (s x : ℕ) (foot : Foot) (w : Work) {to span : ℕ} {u : Work}
+    → u ≡ footFrom d stops k target c s x (record { to = to; span = span }) w → to ≡ foot .to → span ≡ foot .span
+    → u ≡ footFrom d stops k target c s x foot w
+row-path d stops k target c s x foot w eu et es = eu ∙ rw (et, es)

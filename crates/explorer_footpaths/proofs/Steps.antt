@@ -35,14 +35,14 @@ module _ {d : Direction} (x span : ℕ) where
   walked-nowhere e h = rw e (omega arith)
 
 -- ---- the footpath
-module _ (d : Direction) (n k target : ℕ) (c : LegType) (s x to span : ℕ) (w : Work) {y : ℕ} {r : Bool}
+module _ (d : Direction) (stops k target : ℕ) (c : LegType) (s x to span : ℕ) (w : Work) {y : ℕ} {r : Bool}
     (ey : y ≡ walked d x span)
     (er : r ≡ ahead d y target) where
-  pub path-taken : {g : Leg} {v : Work} → r ≡ true → g ≡ legOf d c s x to y → v ≡ applied d (k * n) to y g w
-      → v ≡ footFrom d n k target c s x (record { to = to; span = span }) w
+  pub path-taken : {g : Leg} {v : Work} → r ≡ true → g ≡ legOf d c s x to y → v ≡ applied d (k * stops) to y g w
+      → v ≡ footFrom d stops k target c s x (record { to = to; span = span }) w
   unfolding footFrom offered
   path-taken t eg ev = ev ∙ rw (eg, ← ey, ← er, t)
 
-  pub path-left : r ≡ false → w ≡ footFrom d n k target c s x (record { to = to; span = span }) w
+  pub path-left : r ≡ false → w ≡ footFrom d stops k target c s x (record { to = to; span = span }) w
   unfolding footFrom offered
   path-left t = rw (← ey, ← er, t)

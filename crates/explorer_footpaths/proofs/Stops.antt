@@ -25,78 +25,78 @@ use Rattle.explorer_footpaths.specs.Footing.{Footing, Leaving, footFrom}
 use Rattle.explorer_footpaths.proofs.Held.{SameHeld, stop-held, paths-turn, stops-turn, label-held}
 
 -- ---- one stop
-module _ (d : Direction) (t : Net) (k target s : ℕ) where
-  taken : (c : LegType) (fs : List Foot) (v : Work) {n x : ℕ} → n ≡ t .stops → x ≡ getD (v .held) s 0
-      → inTurn (footFrom d n k target c s x) fs v ≡ pathsWork d t k target c s fs v
-  taken c fs v en ex = rw (en, ex) (sym (paths-turn d t k target c s fs v))
+module _ (d : Direction) (n : Net) (k target s : ℕ) where
+  taken : (c : LegType) (fs : List Foot) (w : Work) {stops x : ℕ} → stops ≡ n .stops → x ≡ getD (w .held) s 0
+      → inTurn (footFrom d stops k target c s x) fs w ≡ pathsWork d n k target c s fs w
+  taken c fs w e-stops ex = rw (e-stops, ex) (sym (paths-turn d n k target c s fs w))
 
-  module _ (n m : ℕ) (p q : List ℕ) {x : ℕ} {u : Work} (en : n ≡ t .stops)
-      (ex : x ≡ getD (heldOf n m p) s 0)
-      (eu : u ≡ inTurn (footFrom d n k target Transfer s x) (t .transfers s) (view n m p q)) where
-    after-transfers : u ≡ pathsWork d t k target Transfer s (t .transfers s) (view n m p q)
+  module _ (stops routes : ℕ) (ws ms : List ℕ) {x : ℕ} {u : Work} (e-stops : stops ≡ n .stops)
+      (ex : x ≡ getD (heldOf stops routes ws) s 0)
+      (eu : u ≡ inTurn (footFrom d stops k target Transfer s x) (n .transfers s) (view stops routes ws ms)) where
+    after-transfers : u ≡ pathsWork d n k target Transfer s (n .transfers s) (view stops routes ws ms)
     unfolding view
-    after-transfers = eu ∙ taken Transfer (t .transfers s) (view n m p q) en ex
+    after-transfers = eu ∙ taken Transfer (n .transfers s) (view stops routes ws ms) e-stops ex
 
-    pub stop-only : {walking : Bool} → walking ≡ false → u ≡ stopWork d t k target walking s (view n m p q)
+    pub stop-only : {walking : Bool} → walking ≡ false → u ≡ stopWork d n k target walking s (view stops routes ws ms)
     unfolding stopWork
     stop-only e = after-transfers ∙ rw e
 
-    pub stop-walks : {walking : Bool} {y : Work} → walking ≡ true → y ≡ inTurn (footFrom d n k target Walk s x) (t .walks s) u
-        → y ≡ stopWork d t k target walking s (view n m p q)
+    pub stop-walks : {walking : Bool} {y : Work} → walking ≡ true → y ≡ inTurn (footFrom d stops k target Walk s x) (n .walks s) u
+        → y ≡ stopWork d n k target walking s (view stops routes ws ms)
     unfolding stopWork view
     stop-walks e ey =
         let held : x ≡ getD (u .held) s 0 =
-        ex ∙ ap (λ (l : List ℕ). getD l s 0) (sym (label-held d t k target Transfer s (t .transfers s) (view n m p q)))
+        ex ∙ ap (λ (l : List ℕ). getD l s 0) (sym (label-held d n k target Transfer s (n .transfers s) (view stops routes ws ms)))
         ∙ ap (λ (w : Work). getD (w .held) s 0) (sym after-transfers) in
-        ey ∙ taken Walk (t .walks s) u en held ∙ ap (pathsWork d t k target Walk s (t .walks s)) after-transfers ∙ rw e
+        ey ∙ taken Walk (n .walks s) u e-stops held ∙ ap (pathsWork d n k target Walk s (n .walks s)) after-transfers ∙ rw e
 
 -- the label as it was read
-pub leaving-at : {w : List ℕ} {o : Round} {s x y : ℕ} → Leaving w o s y → x ≡ y → Leaving w o s x
+pub leaving-at : {w : List ℕ} {round : Round} {s x y : ℕ} → Leaving w round s y → x ≡ y → Leaving w round s x
 leaving-at h e = rw e h
 
 -- a stop whose mark is held can be left
-pub leaving : (p q : List ℕ) (i : ℕ) {w : List ℕ} {o : Round} {s : ℕ} {a : Next} → InRound w o
-    → Footing (o .stops) (view (o .stops) (o .routes) p q) → a ≡ firstOf (after i (heldMarkOf (o .stops) (o .routes) q)) → a ≡ At s
-    → Leaving w o s (getD (heldOf (o .stops) (o .routes) p) s 0)
+pub leaving : (ws ms : List ℕ) (i : ℕ) {w : List ℕ} {round : Round} {s : ℕ} {a : Next} → InRound w round
+    → Footing (round .stops) (view (round .stops) (round .routes) ws ms) → a ≡ firstOf (after i (heldMarkOf (round .stops) (round .routes) ms)) → a ≡ At s
+    → Leaving w round s (getD (heldOf (round .stops) (round .routes) ws) s 0)
 unfolding view
-leaving p q i {o = o} {s = s} h z e f =
-    let g = visited (λ u. (u < o .stops) × (0 < getD (heldOf (o .stops) (o .routes) p) u 0)) i (heldMarkOf (o .stops) (o .routes) q)
+leaving ws ms i {round = round} {s = s} h z e f =
+    let g = visited (λ u. (u < round .stops) × (0 < getD (heldOf (round .stops) (round .routes) ws) u 0)) i (heldMarkOf (round .stops) (round .routes) ms)
     (z .marked) e f in
-    record { round = h; stop = g .0; label = record { some = g .1; most = z .most s (g .0) } }
+    record { in-round = h; stop = g .0; label = record { some = g .1; most = z .most s (g .0) } }
 
 -- ---- all stops
-module _ (d : Direction) (t : Net) (k target : ℕ) (walking : Bool) (n m : ℕ) where
-  pub foot-start : (p q : List ℕ)
-      → Turn (stopWork d t k target walking) (feetWork d t k target walking (view n m p q))
-      (after 0 (heldMarkOf n m q)) (view n m p q)
+module _ (d : Direction) (n : Net) (k target : ℕ) (walking : Bool) (stops routes : ℕ) where
+  pub foot-start : (ws ms : List ℕ)
+      → Turn (stopWork d n k target walking) (feetWork d n k target walking (view stops routes ws ms))
+      (after 0 (heldMarkOf stops routes ms)) (view stops routes ws ms)
   unfolding feetWork view
-  foot-start p q = record {
+  foot-start ws ms = record {
     rest =
-        (mark-start (stopWork d t k target walking) (heldMarkOf n m q) (view n m p q)) .rest
-        ∙ sym (stops-turn d t k target walking (setIn 0 (heldMarkOf n m q)) (view n m p q));
+        (mark-start (stopWork d n k target walking) (heldMarkOf stops routes ms) (view stops routes ws ms)) .rest
+        ∙ sym (stops-turn d n k target walking (setIn 0 (heldMarkOf stops routes ms)) (view stops routes ws ms));
   }
 
-  module _ (p q u v : List ℕ) (s : ℕ) (g : view n m u v ≡ stopWork d t k target walking s (view n m p q)) where
-    marks-held : heldMarkOf n m v ≡ heldMarkOf n m q
+  module _ (ws ms ws′ ms′ : List ℕ) (s : ℕ) (g : view stops routes ws′ ms′ ≡ stopWork d n k target walking s (view stops routes ws ms)) where
+    marks-held : heldMarkOf stops routes ms′ ≡ heldMarkOf stops routes ms
     unfolding view
-    marks-held = ap (λ (w : Work). w .heldMark) g ∙ (stop-held d t k target walking s (view n m p q)) .marks
+    marks-held = ap (λ (w : Work). w .heldMark) g ∙ (stop-held d n k target walking s (view stops routes ws ms)) .marks
 
-    pub footing-held : Footing n (view n m p q) → Footing n (view n m u v)
+    pub footing-held : Footing stops (view stops routes ws ms) → Footing stops (view stops routes ws′ ms′)
     footing-held z =
-        stays (view n m p q) (view n m u v)
-        (subst (SameHeld (view n m p q)) (sym g) (stop-held d t k target walking s (view n m p q))) z
+        stays (view stops routes ws ms) (view stops routes ws′ ms′)
+        (subst (SameHeld (view stops routes ws ms)) (sym g) (stop-held d n k target walking s (view stops routes ws ms))) z
       where
-        stays : (x y : Work) → SameHeld x y → Footing n x → Footing n y
+        stays : (x y : Work) → SameHeld x y → Footing stops x → Footing stops y
         stays x y h z = record {
           most = λ s i. rw (h .labels) (z .most s i);
           marked = rw (h .labels, h .marks) (z .marked);
         }
 
     pub foot-next : (i : ℕ) {goal : Work} {a : Next}
-        → Turn (stopWork d t k target walking) goal (after i (heldMarkOf n m q)) (view n m p q)
-        → a ≡ firstOf (after i (heldMarkOf n m q)) → a ≡ At s
-        → Turn (stopWork d t k target walking) goal (after (s + 1) (heldMarkOf n m v)) (view n m u v)
-    foot-next i {goal = goal} o e f =
-        subst (λ (l : List Bool). Turn (stopWork d t k target walking) goal (after (s + 1) l) (view n m u v))
+        → Turn (stopWork d n k target walking) goal (after i (heldMarkOf stops routes ms)) (view stops routes ws ms)
+        → a ≡ firstOf (after i (heldMarkOf stops routes ms)) → a ≡ At s
+        → Turn (stopWork d n k target walking) goal (after (s + 1) (heldMarkOf stops routes ms′)) (view stops routes ws′ ms′)
+    foot-next i {goal = goal} turn e f =
+        subst (λ (l : List Bool). Turn (stopWork d n k target walking) goal (after (s + 1) l) (view stops routes ws′ ms′))
         (sym marks-held)
-        (mark-next i (heldMarkOf n m q) o e f g)
+        (mark-next i (heldMarkOf stops routes ms) turn e f g)

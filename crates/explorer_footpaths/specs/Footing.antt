@@ -5,6 +5,7 @@ use lib.ListN.{getD}
 use Rattle.base.specs.Each.{Each}
 use Rattle.model.specs.declared.Direction.{Direction}
 use Rattle.model.specs.declared.LegType.{LegType}
+use Rattle.model.specs.Limits.{LAST-MOMENT}
 use Rattle.model.specs.Tables.{Foot}
 use Rattle.model.specs.Lists.{setIn}
 use Rattle.model.specs.Legs.{legOf}
@@ -18,25 +19,25 @@ use Rattle.explorer_footpaths.specs.declared.Foothold.{Foothold}
 -- a moment of the timetable
 pub record Label (x : ℕ) : Type 0 where
   pub some : 0 < x
-  pub most : x ≤ 1_000_000
+  pub most : x ≤ LAST-MOMENT
 
--- of n stops: no label that is held is above the timetable's moments, and every stop whose mark is held has one. The
+-- of so many stops: no label that is held is above the timetable's moments, and every stop whose mark is held has one. The
 -- model promises both: `ridden-footing` of proofs/Footing.antt
-pub record Footing (n : ℕ) (w : Work) : Type 0 where
-  pub most : (s : ℕ) → s < n → getD (w .held) s 0 ≤ 1_000_000
-  pub marked : Each (λ s. (s < n) × (0 < getD (w .held) s 0)) (setIn 0 (w .heldMark))
+pub record Footing (stops : ℕ) (w : Work) : Type 0 where
+  pub most : (s : ℕ) → s < stops → getD (w .held) s 0 ≤ LAST-MOMENT
+  pub marked : Each (λ s. (s < stops) × (0 < getD (w .held) s 0)) (setIn 0 (w .heldMark))
 
--- stop s, which its label x lets a footpath leave in the round o over the tables w
-pub record Leaving (w : List ℕ) (o : Round) (s x : ℕ) : Type 0 where
-  pub round : InRound w o
-  pub stop : s < o .stops
+-- stop s, which its label x lets a footpath leave in a round over the tables w
+pub record Leaving (w : List ℕ) (round : Round) (s x : ℕ) : Type 0 where
+  pub in-round : InRound w round
+  pub stop : s < round .stops
   pub label : Label x
 
 -- a footpath of kind c from stop s, whose label is x
 unfoldable pub footFrom : Direction → ℕ → ℕ → ℕ → LegType → ℕ → ℕ → Foot → Work → Work
-footFrom d n k target c s x f w =
-    offered d (k * n) target (f .to) (walked d x (f .span)) (legOf d c s x (f .to) (walked d x (f .span))) w
+footFrom d stops k target c s x f w =
+    offered d (k * stops) target (f .to) (walked d x (f .span)) (legOf d c s x (f .to) (walked d x (f .span))) w
 
--- the same in a round o, from a foothold
+-- the same in a round, from a foothold
 abbrev pub footBy : Round → LegType → Foothold → Foot → Work → Work
-footBy o c g = footFrom (o .direction) (o .stops) (o .number) (o .target .0) c (g .stop) (g .label .0)
+footBy round c from = footFrom (round .direction) (round .stops) (round .number) (round .target .0) c (from .stop) (from .label .0)

@@ -3,6 +3,7 @@ ghost use mathlib.Core.Path.{_≡_};
 ghost use Prim.Native.Nat.{_<_, _≤_};
 ghost use lib.ListN.{getD};
 ghost use Rattle.model.specs.declared.LegType.the-variants.{Transfer, Walk};
+ghost use Rattle.model.specs.Limits.{MOST-ROUNDS};
 ghost use Rattle.model.specs.Moments.{better};
 ghost use Rattle.model.specs.Footpaths.{walked};
 ghost use Rattle.repository.specs.NetOf.{transferRow, walkRow, netOf};
@@ -70,7 +71,7 @@ fn explore_path(
     span: Duration,
 )
     requires { ⌜ Usable (round .stops) (round .routes) (now words) (now marks) ⌝ }
-    requires { ⌜ round .number < 15 ⌝ }
+    requires { ⌜ round .number < MOST-ROUNDS ⌝ }
     requires { ⌜ Label (from .label .0) ⌝ }
     requires { ⌜ to < round .stops ⌝ }
     requires { ⌜ span .0 ≤ 86400 ⌝ }
@@ -81,12 +82,20 @@ fn explore_path(
     let y = walked_at(d, from.label, span);
     if allocator::is_ahead(d, y, round.target) {
         let g = allocator::leg_of(d, kind, from.stop, from.label, to, y);
-        let o = Offer {
+        let offer = Offer {
             stop: to,
             moment: y,
             leg: g,
         };
-        allocator::apply(words, marks, round.stops, round.routes, d, round.number, o);
+        allocator::apply(
+            words,
+            marks,
+            round.stops,
+            round.routes,
+            d,
+            round.number,
+            offer,
+        );
     }
 }
 
