@@ -142,9 +142,9 @@ module _ (d : Direction) (w : List ℕ) (target best : ℕ) (here : Call) (a : R
   look-catches e = ap (λ (y : Seen). y .catches) e
 
 -- ---- the label that was read
-pub board-is : (w : List ℕ) (o : Round) (here : Call) (ws ms : List ℕ) (a : Aboard) {e : Aboard} → OnRoute w here
-    → here .label .0 ≡ getD (prevOf (o .stops) (o .routes) ws) (here .stop) 0
-    → e ≡ boardAt (o .direction) (netOf w) (here .route) (here .position) (here .label .0) a
-    → e ≡ board (o .direction) (netOf w) ((view (o .stops) (o .routes) ws ms) .prev) (here .route) (here .position) a
+pub board-is : (w : List ℕ) (round : Round) (here : Call) (ws ms : List ℕ) (a : Aboard) {e : Aboard} → OnRoute w here
+    → here .label .0 ≡ getD (prevOf (round .stops) (round .routes) ws) (here .stop) 0
+    → e ≡ boardAt (round .direction) (netOf w) (here .route) (here .position) (here .label .0) a
+    → e ≡ board (round .direction) (netOf w) ((view (round .stops) (round .routes) ws ms) .prev) (here .route) (here .position) a
 unfolding board boardAt view
-board-is w o here ws ms a q ex f = f ∙ rw (ex, q .stop)
+board-is w round here ws ms a q ex f = f ∙ rw (ex, q .stop)

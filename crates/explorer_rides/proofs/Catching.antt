@@ -78,14 +78,14 @@ module _ (w : List ℕ) (here : Call) (a : Ride) (h : OnRoute w here) where
   abbrev p : ℕ
   p = here .position
 
-  trip-aboard : (o : Option ℕ) (t : Trip) → InRoute (netOf w) r t → tripIn (netOf w) r t ≡ o
-      → aboard (caught w r p a t) ≡ boarded p (aboard a) o
+  trip-aboard : (found : Option ℕ) (t : Trip) → InRoute (netOf w) r t → tripIn (netOf w) r t ≡ found
+      → aboard (caught w r p a t) ≡ boarded p (aboard a) found
   unfolding caught tripIn boarded
-  trip-aboard o (At i) z e =
+  trip-aboard found (At i) z e =
       let v = netOf w .tripAt r i in
       aboard-on (record { trip = v; since = p; row = timeRow w v; place = i }) (place-real (h .searchable) (h .route) (z .within i refl))
       ∙ rw (← e)
-  trip-aboard o Nothing z e = rw (← e)
+  trip-aboard found Nothing z e = rw (← e)
 
   trip-seated : (t : Trip) → InRoute (netOf w) r t → Seated w r a → Seated w r (caught w r p a t)
   unfolding caught

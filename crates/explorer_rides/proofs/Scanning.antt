@@ -92,12 +92,12 @@ module _ (n : Net) (r : ℕ) (few : n .positions r < MAX) where
   next-within Arrival (suc p) l = record { within = λ real. omega arith }
 
 -- ---- what stands fixed, for who asks
-module _ {w stops : List ℕ} {o : Round} {r : ℕ} (h : Rideable w o r stops) where
-  pub known-riding : Riding w o r stops
+module _ {w stops : List ℕ} {round : Round} {r : ℕ} (h : Rideable w round r stops) where
+  pub known-riding : Riding w round r stops
   known-riding = h .known tt
 
   pub known-laid : Laid w
-  known-laid = known-riding .round .fixed .searchable .laid
+  known-laid = known-riding .in-round .fixed .searchable .laid
 
   pub known-route : r < netOf w .routes
   known-route = known-riding .route
@@ -105,7 +105,7 @@ module _ {w stops : List ℕ} {o : Round} {r : ℕ} (h : Rideable w o r stops) w
   pub known-room : {q : ℕ} → q < netOf w .positions r → q < length stops
   known-room l = stop-room known-riding l
 
-  pub known-stop : {q : ℕ} → q < netOf w .positions r → getD stops q 0 < o .stops
+  pub known-stop : {q : ℕ} → q < netOf w .positions r → getD stops q 0 < round .stops
   known-stop {q} l = call-in {here = record { route = r; position = q; stop = getD stops q 0; label = record { 0 = 0 } }} known-riding (call-at known-riding l)
 
   pub known-call : {q : ℕ} {x : Time} → q < netOf w .positions r
@@ -126,41 +126,41 @@ module _ {w stops : List ℕ} {o : Round} {r : ℕ} (h : Rideable w o r stops) w
   known-next l = omega (arith, few-positions)
 
   -- the scan goes on at p
-  module _ {p end past : ℕ} (e : end ≡ netOf w .positions r) (f : past ≡ pastOf (o .direction) end) where
-    pub on-way : Within (o .direction) (netOf w) r p → (p ≡ past → ⊥) → p < netOf w .positions r
+  module _ {p end past : ℕ} (e : end ≡ netOf w .positions r) (f : past ≡ pastOf (round .direction) end) where
+    pub on-way : Within (round .direction) (netOf w) r p → (p ≡ past → ⊥) → p < netOf w .positions r
     on-way z real = z .within (λ g. real (g ∙ sym (rw e at f)))
 
-    pub left-end : p ≡ past → positionsLeft (o .direction) (netOf w) r p ≡ []
-    left-end g = past-all (o .direction) (netOf w) r p (g ∙ rw e at f)
+    pub left-end : p ≡ past → positionsLeft (round .direction) (netOf w) r p ≡ []
+    left-end g = past-all (round .direction) (netOf w) r p (g ∙ rw e at f)
 
   module _ {p : ℕ} (l : p < netOf w .positions r) where
-    pub left-start : positionsLeft (o .direction) (netOf w) r p ≡ course (o .direction) (netOf w) r p
-    left-start = from-mark (netOf w) r few-positions (o .direction) p l
+    pub left-start : positionsLeft (round .direction) (netOf w) r p ≡ course (round .direction) (netOf w) r p
+    left-start = from-mark (netOf w) r few-positions (round .direction) p l
 
-    pub within-start : Within (o .direction) (netOf w) r p
+    pub within-start : Within (round .direction) (netOf w) r p
     within-start = record { within = λ _. l }
 
-    module _ {q : ℕ} (e : q ≡ nextOf (o .direction) p) where
-      pub left-on : positionsLeft (o .direction) (netOf w) r p ≡ p ∷ positionsLeft (o .direction) (netOf w) r q
-      left-on = rw e (first-left (netOf w) r few-positions (o .direction) p l)
+    module _ {q : ℕ} (e : q ≡ nextOf (round .direction) p) where
+      pub left-on : positionsLeft (round .direction) (netOf w) r p ≡ p ∷ positionsLeft (round .direction) (netOf w) r q
+      left-on = rw e (first-left (netOf w) r few-positions (round .direction) p l)
 
-      pub left-less : length (positionsLeft (o .direction) (netOf w) r q) < length (positionsLeft (o .direction) (netOf w) r p)
+      pub left-less : length (positionsLeft (round .direction) (netOf w) r q) < length (positionsLeft (round .direction) (netOf w) r p)
       left-less = omega (arith, ap (λ (x : List ℕ). length x) left-on)
 
-      pub within-on : Within (o .direction) (netOf w) r q
-      within-on = rw e (next-within (netOf w) r few-positions (o .direction) p l)
+      pub within-on : Within (round .direction) (netOf w) r q
+      within-on = rw e (next-within (netOf w) r few-positions (round .direction) p l)
 
-module _ (w : List ℕ) (o : Round) (r : ℕ) (whole ws₀ ms₀ : List ℕ) where
+module _ (w : List ℕ) (round : Round) (r : ℕ) (whole ws₀ ms₀ : List ℕ) where
   pub record Along (ws ms : List ℕ) (ride : Ride) (ps : List ℕ) : Type 0 where
-    pub rest : scanWork (o .direction) (netOf w) (o .number) (o .target .0) r ps (aboard ride) (view (o .stops) (o .routes) ws ms)
-        ≡ scanWork (o .direction) (netOf w) (o .number) (o .target .0) r whole Off
-        (view (o .stops) (o .routes) ws₀ ms₀)
-    pub usable : Usable (o .stops) (o .routes) ws ms
+    pub rest : scanWork (round .direction) (netOf w) (round .number) (round .target .0) r ps (aboard ride) (view (round .stops) (round .routes) ws ms)
+        ≡ scanWork (round .direction) (netOf w) (round .number) (round .target .0) r whole Off
+        (view (round .stops) (round .routes) ws₀ ms₀)
+    pub usable : Usable (round .stops) (round .routes) ws ms
     pub seated : Seated w r ride
 
-module _ {w : List ℕ} {o : Round} {r : ℕ} {whole ws₀ ms₀ : List ℕ} where
-  pub along-start : {ps : List ℕ} → Usable (o .stops) (o .routes) ws₀ ms₀ → ps ≡ whole
-      → Along w o r whole ws₀ ms₀ ws₀ ms₀ (record { trip = 0; since = 0; row = 0; place = MAX }) ps
+module _ {w : List ℕ} {round : Round} {r : ℕ} {whole ws₀ ms₀ : List ℕ} where
+  pub along-start : {ps : List ℕ} → Usable (round .stops) (round .routes) ws₀ ms₀ → ps ≡ whole
+      → Along w round r whole ws₀ ms₀ ws₀ ms₀ (record { trip = 0; since = 0; row = 0; place = MAX }) ps
   along-start u e = record {
     rest = rw (e, aboard-off (record { trip = 0; since = 0; row = 0; place = MAX }) refl);
     usable = u;
@@ -168,10 +168,10 @@ module _ {w : List ℕ} {o : Round} {r : ℕ} {whole ws₀ ms₀ : List ℕ} whe
   }
 
   pub along-step : {ws ms ws′ ms′ ps qs : List ℕ} {a b : Ride} {p : ℕ}
-      → Along w o r whole ws₀ ms₀ ws ms a ps → ps ≡ p ∷ qs
-      → Does (o .stops) (o .routes) (alightWork (o .direction) (netOf w) (o .number) (o .target .0) r p (aboard a)) ws ms ws′ ms′
-      → aboard b ≡ board (o .direction) (netOf w) ((view (o .stops) (o .routes) ws ms) .prev) r p (aboard a) → Seated w r b
-      → Along w o r whole ws₀ ms₀ ws′ ms′ b qs
+      → Along w round r whole ws₀ ms₀ ws ms a ps → ps ≡ p ∷ qs
+      → Does (round .stops) (round .routes) (alightWork (round .direction) (netOf w) (round .number) (round .target .0) r p (aboard a)) ws ms ws′ ms′
+      → aboard b ≡ board (round .direction) (netOf w) ((view (round .stops) (round .routes) ws ms) .prev) r p (aboard a) → Seated w r b
+      → Along w round r whole ws₀ ms₀ ws′ ms′ b qs
   unfolding scanWork
   along-step h e f i z = record {
     rest = rw (f .holds, i) (rw e at (h .rest));
@@ -179,12 +179,12 @@ module _ {w : List ℕ} {o : Round} {r : ℕ} {whole ws₀ ms₀ : List ℕ} whe
     seated = z;
   }
 
-  pub along-end : {ws ms ps : List ℕ} {a : Ride} → Along w o r whole ws₀ ms₀ ws ms a ps → ps ≡ []
-      → Does (o .stops) (o .routes)
-      (scanWork (o .direction) (netOf w) (o .number) (o .target .0) r whole Off)
+  pub along-end : {ws ms ps : List ℕ} {a : Ride} → Along w round r whole ws₀ ms₀ ws ms a ps → ps ≡ []
+      → Does (round .stops) (round .routes)
+      (scanWork (round .direction) (netOf w) (round .number) (round .target .0) r whole Off)
       ws₀ ms₀ ws ms
   unfolding scanWork
   along-end h e = record { holds = rw e at (h .rest); usable = h .usable }
 
-  pub along-usable : {ws ms ps : List ℕ} {a : Ride} → Along w o r whole ws₀ ms₀ ws ms a ps → Usable (o .stops) (o .routes) ws ms
+  pub along-usable : {ws ms ps : List ℕ} {a : Ride} → Along w round r whole ws₀ ms₀ ws ms a ps → Usable (round .stops) (round .routes) ws ms
   along-usable h = h .usable

@@ -20,7 +20,7 @@ use Rattle.explorer_rides.specs.declared.Ride.{Ride}
 use Rattle.explorer_rides.specs.Riding.{aboard, Seat, Seated, OnRoute, Riding}
 
 -- ---- the stops of the route
-module _ {w stops : List ℕ} {o : Round} {r : ℕ} (h : Riding w o r stops) where
+module _ {w stops : List ℕ} {round : Round} {r : ℕ} (h : Riding w round r stops) where
   long : length stops ≡ netOf w .positions r
   long = ap length (h .along) ∙ tab-length (netOf w .stopAt r) (netOf w .positions r) 0
 
@@ -33,22 +33,22 @@ module _ {w stops : List ℕ} {o : Round} {r : ℕ} (h : Riding w o r stops) whe
         ap (λ (x : List ℕ). getD x p 0) (h .along) ∙ tab-at (netOf w .stopAt r) (netOf w .positions r) p 0 l
 
     pub call-at : {x : Time} → OnRoute w (record { route = r; position = p; stop = getD stops p 0; label = x })
-    call-at = record { searchable = h .round .fixed .searchable; route = h .route; position = l; stop = stop-read }
+    call-at = record { searchable = h .in-round .fixed .searchable; route = h .route; position = l; stop = stop-read }
 
-pub call-in : {w stops : List ℕ} {o : Round} {here : Call} → Riding w o (here .route) stops → OnRoute w here
-    → here .stop < o .stops
-call-in h q = rw (h .round .fixed .net-stops) (stop-known (q .searchable) (q .route) (q .position) (q .stop))
+pub call-in : {w stops : List ℕ} {round : Round} {here : Call} → Riding w round (here .route) stops → OnRoute w here
+    → here .stop < round .stops
+call-in h q = rw (h .in-round .fixed .net-stops) (stop-known (q .searchable) (q .route) (q .position) (q .stop))
 
 -- ---- the trip aboard
 module _ {w : List ℕ} {r : ℕ} {ride : Ride} (s : Seat w r ride) where
   seat-trip : TripOf (netOf w) r (ride .trip)
   seat-trip = record { place = ride .place; within = s .place; trip = s .trip }
 
-  pub seat-room : {o : Round} {stops : List ℕ} → Riding w o r stops → ride .since < length stops
+  pub seat-room : {round : Round} {stops : List ℕ} → Riding w round r stops → ride .since < length stops
   seat-room h = stop-room h (s .since)
 
-  pub seat-times : {o : Round} {stops : List ℕ} → Riding w o r stops → ride .row + ride .since < timeCount w
-  seat-times h = time-known (h .round .fixed .searchable) (h .route) seat-trip (s .since) (s .times)
+  pub seat-times : {round : Round} {stops : List ℕ} → Riding w round r stops → ride .row + ride .since < timeCount w
+  seat-times h = time-known (h .in-round .fixed .searchable) (h .route) seat-trip (s .since) (s .times)
 
 module _ {w : List ℕ} {r : ℕ} {ride : Ride} (z : Seated w r ride) (e : ride .place ≡ MAX → ⊥) where
   pub seat-on : Seat w r ride

@@ -44,10 +44,10 @@ module _ (w : List ℕ) (v p : ℕ) {row t : ℕ} (e : row ≡ timeRow w v) wher
   leave-is Arrival f = arrival-is w v p e f
 
 -- ---- the leg that the code makes
-pub leg-is : {w stops : List ℕ} {o : Round} {r : ℕ} (a : Ride) (s t : ℕ) {x : ℕ} {g : Leg} → Riding w o r stops → Seat w r a
-    → x ≡ leaveIn (o .direction) w (a .row) (a .since)
-    → g ≡ legOf (o .direction) (Transit (a .trip)) (getD stops (a .since) 0) x s t
-    → g ≡ rideLeg (o .direction) (netOf w) r a s t
+pub leg-is : {w stops : List ℕ} {round : Round} {r : ℕ} (a : Ride) (s t : ℕ) {x : ℕ} {g : Leg} → Riding w round r stops → Seat w r a
+    → x ≡ leaveIn (round .direction) w (a .row) (a .since)
+    → g ≡ legOf (round .direction) (Transit (a .trip)) (getD stops (a .since) 0) x s t
+    → g ≡ rideLeg (round .direction) (netOf w) r a s t
 unfolding rideLeg
-leg-is {w} {o = o} a s t h z ex eg =
-    eg ∙ rw (stop-read h (z .since), leave-is w (a .trip) (a .since) (z .times) (o .direction) ex)
+leg-is {w} {round = round} a s t h z ex eg =
+    eg ∙ rw (stop-read h (z .since), leave-is w (a .trip) (a .since) (z .times) (round .direction) ex)

@@ -49,15 +49,15 @@ module _ (d : Direction) (n : Net) (k target r : ℕ) where
   unfolding routeWork
   route-same x = scan-same (course d n r (getD (x .active) r 0)) Off x
 
-module _ (w : List ℕ) (o : Round) (r : ℕ) (ws ms ws′ ms′ : List ℕ)
-    (f : Does (o .stops) (o .routes) (routeWork (o .direction) (netOf w) (o .number) (o .target .0) r) ws ms ws′ ms′) where
-  same : Same (view (o .stops) (o .routes) ws ms) (view (o .stops) (o .routes) ws′ ms′)
-  same = rw (f .holds) (route-same (o .direction) (netOf w) (o .number) (o .target .0) r (view (o .stops) (o .routes) ws ms))
+module _ (w : List ℕ) (round : Round) (r : ℕ) (ws ms ws′ ms′ : List ℕ)
+    (f : Does (round .stops) (round .routes) (routeWork (round .direction) (netOf w) (round .number) (round .target .0) r) ws ms ws′ ms′) where
+  same : Same (view (round .stops) (round .routes) ws ms) (view (round .stops) (round .routes) ws′ ms′)
+  same = rw (f .holds) (route-same (round .direction) (netOf w) (round .number) (round .target .0) r (view (round .stops) (round .routes) ws ms))
 
-  pub route-mask : maskOf (o .stops) (o .routes) ms′ ≡ maskOf (o .stops) (o .routes) ms
+  pub route-mask : maskOf (round .stops) (round .routes) ms′ ≡ maskOf (round .stops) (round .routes) ms
   unfolding view
   route-mask = same .mask
 
-  pub route-active : activeOf (o .stops) (o .routes) ws′ ≡ activeOf (o .stops) (o .routes) ws
+  pub route-active : activeOf (round .stops) (round .routes) ws′ ≡ activeOf (round .stops) (round .routes) ws
   unfolding view
   route-active = same .active

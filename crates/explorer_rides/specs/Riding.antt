@@ -51,15 +51,15 @@ caught w r p a Nothing = a
 unfoldable pub rideLeg : Direction → Net → ℕ → Ride → ℕ → ℕ → Leg
 rideLeg d n r a s t = legOf d (Transit (a .trip)) (n .stopAt r (a .since)) (leave d n (a .trip) (a .since)) s t
 
--- in the round o, along the route r, whose stops are lent
-pub record Riding (w : List ℕ) (o : Round) (r : ℕ) (stops : List ℕ) : Type 0 where
-  pub round : InRound w o
+-- in a round, along the route r, whose stops are lent
+pub record Riding (w : List ℕ) (round : Round) (r : ℕ) (stops : List ℕ) : Type 0 where
+  pub in-round : InRound w round
   pub route : r < netOf w .routes
   pub along : stops ≡ tab (netOf w .stopAt r) (netOf w .positions r) 0
 
 -- the same behind a function, so that only who asks for its many facts has them
-pub record Rideable (w : List ℕ) (o : Round) (r : ℕ) (stops : List ℕ) : Type 0 where
-  pub known : Unit {0} → Riding w o r stops
+pub record Rideable (w : List ℕ) (round : Round) (r : ℕ) (stops : List ℕ) : Type 0 where
+  pub known : Unit {0} → Riding w round r stops
 
 -- at a call: a position of a route, with its stop
 pub record OnRoute (w : List ℕ) (here : Call) : Type 0 where

@@ -139,10 +139,18 @@ pub fn propose(
     let d = round.direction;
     let t = reaches_at(tables, d, ride.row, here.position);
     let g = leg_from(tables, stops, round, here, t, ride);
-    let o = Offer {
+    let offer = Offer {
         stop: here.stop,
         moment: t,
         leg: g,
     };
-    allocator::apply(words, marks, round.stops, round.routes, d, round.number, o);
+    allocator::apply(
+        words,
+        marks,
+        round.stops,
+        round.routes,
+        d,
+        round.number,
+        offer,
+    );
 }
