@@ -6,6 +6,7 @@ use mathlib.Core.List.{List}
 use Rattle.model.specs.declared.Direction.{Direction}
 use Rattle.model.specs.declared.Mode.{Mode}
 use Rattle.model.specs.declared.Target.{Target}
+use Rattle.model.specs.Limits.{MOST-ROUNDS}
 use Rattle.model.specs.Lists.{anyOf}
 use Rattle.model.specs.Work.{Work, stateOf}
 use Rattle.model.specs.Round.{aim, listed}
@@ -29,30 +30,30 @@ use Rattle.raptor_rounds.proofs.OneRound.{ready, search-start, search-o
 abbrev pub none : Target
 none = record { stop = 0; round = 0; time = record { 0 = 0 } }
 
--- the words w and marks y at the start of round k, with the target g
-pub record At (tables : List ℕ) (n m : ℕ) (q : Task) (k : ℕ) (w y : List ℕ) (g : Target) : Type 0 where
-  pub tabled : Tabled tables n m
-  pub usable : Usable n m w y
-  pub goals : Below n (q .goals)
-  pub rounds : Rounds (netOf tables) q k (stateOf (view n m w y) g)
+-- the words ws and marks ms at the start of round k, with the target `aimed`
+pub record At (tables : List ℕ) (stops routes : ℕ) (q : Task) (k : ℕ) (ws ms : List ℕ) (aimed : Target) : Type 0 where
+  pub tabled : Tabled tables stops routes
+  pub usable : Usable stops routes ws ms
+  pub goals : Below stops (q .goals)
+  pub rounds : Rounds (netOf tables) q k (stateOf (view stops routes ws ms) aimed)
 
-module _ {tables : List ℕ} {n m : ℕ} {d : Direction} {mode : Mode} {walking : Bool} {ss gs : List ℕ} {t k : ℕ} {w y : List ℕ} {g : Target}
-    (h : At tables n m (task d mode walking ss gs t) k w y g) where
-  pub at-tabled : Tabled tables n m
+module _ {tables : List ℕ} {stops routes : ℕ} {d : Direction} {mode : Mode} {walking : Bool} {ss gs : List ℕ} {t k : ℕ} {ws ms : List ℕ} {aimed : Target}
+    (h : At tables stops routes (task d mode walking ss gs t) k ws ms aimed) where
+  pub at-tabled : Tabled tables stops routes
   at-tabled = h .tabled
 
-  pub at-goals : Below n gs
+  pub at-goals : Below stops gs
   at-goals = h .goals
 
-  pub at-usable : Usable n m w y
+  pub at-usable : Usable stops routes ws ms
   at-usable = h .usable
 
-  pub at-ready : k < 15 → Ready d mode walking (netOf tables) k (g .time .0) (view n m w y)
+  pub at-ready : k < MOST-ROUNDS → Ready d mode walking (netOf tables) k (aimed .time .0) (view stops routes ws ms)
   at-ready lt = ready (netOf tables) d mode walking ss gs t (h .rounds) lt refl
 
-  pub at-next : {w₁ y₁ : List ℕ} {g₁ : Target} {b : Bool} → k < 15 → b ≡ anyOf (markOf n m y) → b ≡ true
-      → Does n m (roundWork d mode walking (netOf tables) k (g .time .0)) w y w₁ y₁ → g₁ ≡ aim d k (bestOf n m w₁) gs g
-      → At tables n m (task d mode walking ss gs t) (k + 1) w₁ y₁ g₁
+  pub at-next : {ws′ ms′ : List ℕ} {aimed′ : Target} {b : Bool} → k < MOST-ROUNDS → b ≡ anyOf (markOf stops routes ms) → b ≡ true
+      → Does stops routes (roundWork d mode walking (netOf tables) k (aimed .time .0)) ws ms ws′ ms′ → aimed′ ≡ aim d k (bestOf stops routes ws′) gs aimed
+      → At tables stops routes (task d mode walking ss gs t) (k + 1) ws′ ms′ aimed′
   unfolding view
   at-next lt eb is u v = record {
     tabled = h .tabled;
@@ -61,20 +62,20 @@ module _ {tables : List ℕ} {n m : ℕ} {d : Direction} {mode : Mode} {walking 
     rounds = search-on (netOf tables) d mode walking ss gs t (h .rounds) lt eb is (u .holds) v;
   }
 
-  pub at-end : {w₁ y₁ : List ℕ} {b : Bool} → k < 15 → b ≡ anyOf (markOf n m y) → b ≡ false → Does n m (swapped n) w y w₁ y₁
-      → stateOf (view n m w₁ y₁) g ≡ search (netOf tables) (task d mode walking ss gs t) listed
+  pub at-end : {ws′ ms′ : List ℕ} {b : Bool} → k < MOST-ROUNDS → b ≡ anyOf (markOf stops routes ms) → b ≡ false → Does stops routes (swapped stops) ws ms ws′ ms′
+      → stateOf (view stops routes ws′ ms′) aimed ≡ search (netOf tables) (task d mode walking ss gs t) listed
   unfolding view
   at-end lt eb is u =
       search-ends (netOf tables) d mode walking ss gs t (h .rounds) lt eb is (rw (← (h .tabled .known tt .net-stops)) (u .holds))
 
-  pub at-all : 15 ≤ k → stateOf (view n m w y) g ≡ search (netOf tables) (task d mode walking ss gs t) listed
+  pub at-all : MOST-ROUNDS ≤ k → stateOf (view stops routes ws ms) aimed ≡ search (netOf tables) (task d mode walking ss gs t) listed
   at-all le = search-done (netOf tables) d mode walking ss gs t (h .rounds) le
 
 -- the loop begins with what `search` has made
-pub begun : {tables : List ℕ} (a : Ask) {ss gs w₀ y₀ w₁ y₁ w y : List ℕ} → Tabled tables (a .stops) (a .routes) → Below (a .stops) ss
+pub begun : {tables : List ℕ} (a : Ask) {ss gs ws₀ ms₀ ws₁ ms₁ ws ms : List ℕ} → Tabled tables (a .stops) (a .routes) → Below (a .stops) ss
     → Below (a .stops) gs → 0 < a .moment .0
-    → Does (a .stops) (a .routes) (λ (_ : Work). cleared (a .stops) (a .routes) (a .direction)) w₀ y₀ w₁ y₁
-    → Does (a .stops) (a .routes) (startedAll (a .moment .0) ss) w₁ y₁ w y → Begun tables a ss gs w y
+    → Does (a .stops) (a .routes) (λ (_ : Work). cleared (a .stops) (a .routes) (a .direction)) ws₀ ms₀ ws₁ ms₁
+    → Does (a .stops) (a .routes) (startedAll (a .moment .0) ss) ws₁ ms₁ ws ms → Begun tables a ss gs ws ms
 begun a {ss = ss} x s g t e f = record {
   tabled = x;
   usable = f .usable;
@@ -84,8 +85,8 @@ begun a {ss = ss} x s g t e f = record {
   holds = f .holds ∙ ap (startedAll (a .moment .0) ss) (e .holds);
 }
 
-pub at-start : {tables : List ℕ} (a : Ask) {ss gs w y : List ℕ} → Begun tables a ss gs w y
-    → At tables (a .stops) (a .routes) (taskBetween a ss gs) 0 w y none
+pub at-start : {tables : List ℕ} (a : Ask) {ss gs ws ms : List ℕ} → Begun tables a ss gs ws ms
+    → At tables (a .stops) (a .routes) (taskBetween a ss gs) 0 ws ms none
 at-start {tables} a {ss = ss} {gs = gs} b =
     let x = b .tabled .known tt in
     record {

@@ -10,10 +10,11 @@ use Rattle.model.specs.declared.Direction.{Direction}
 use Rattle.model.specs.declared.Mode.{Mode}
 use Rattle.model.specs.declared.Target.{Target}
 use Rattle.model.specs.Tables.{Net}
+use Rattle.model.specs.Limits.{MOST-ROUNDS}
 use Rattle.model.specs.Lists.{anyOf, setIn}
 use Rattle.model.specs.State.{Task, task, Labels, Times, State}
 use Rattle.model.specs.Work.{Work, workOf, stateOf}
-use Rattle.model.specs.Round.{aim, listed, picks, opened, ridden, footed, aimed, roundTimes, round, rideHalf, riddenParents}
+use Rattle.model.specs.Round.{aim, listed, picks, opened, ridden, footed, aimed as aimedTimes, roundTimes, round, rideHalf, riddenParents}
 use Rattle.model.specs.Search.{begun, ended, search}
 use Rattle.model.specs.Sound.{Sound, Asked}
 use Rattle.model.proofs.Orders.{listed-fair}
@@ -35,30 +36,30 @@ use Rattle.raptor_rounds.specs.OneRound.{roundWork, Ready}
 use Rattle.raptor_rounds.proofs.Rest.{Rounds, rounds-start, rounds-next, rounds-end, rounds-all}
 
 module _ (n : Net) (d : Direction) (mode : Mode) (walking : Bool) (ss gs : List ℕ) (t : ℕ) where
-  module _ {k : ℕ} {w : Work} {g : Target} (h : Rounds n (task d mode walking ss gs t) k (stateOf w g)) where
+  module _ {k : ℕ} {w : Work} {aimed : Target} (h : Rounds n (task d mode walking ss gs t) k (stateOf w aimed)) where
     -- one round of the program is the model's
-    round-is : workOf (round n (task d mode walking ss gs t) listed k (stateOf w g)) ≡ roundWork d mode walking n k (g .time .0) w
+    round-is : workOf (round n (task d mode walking ss gs t) listed k (stateOf w aimed)) ≡ roundWork d mode walking n k (aimed .time .0) w
     unfolding roundWork
     round-is =
-        round-fused n (task d mode walking ss gs t) k (stateOf w g)
-        ∙ ap (λ (u : Work). feetWork d n k (g .time .0) walking (holding (ridesWork d n k (g .time .0) u)))
+        round-fused n (task d mode walking ss gs t) k (stateOf w aimed)
+        ∙ ap (λ (u : Work). feetWork d n k (aimed .time .0) walking (holding (ridesWork d n k (aimed .time .0) u)))
         (opened-by n (task d mode walking ss gs t) w)
 
-    aimed-is : (round n (task d mode walking ss gs t) listed k (stateOf w g)) .times .target
-        ≡ aim d k ((workOf (round n (task d mode walking ss gs t) listed k (stateOf w g))) .labels .best) gs g
-    unfolding round roundTimes aimed footed ridden opened
+    aimed-is : (round n (task d mode walking ss gs t) listed k (stateOf w aimed)) .times .target
+        ≡ aim d k ((workOf (round n (task d mode walking ss gs t) listed k (stateOf w aimed))) .labels .best) gs aimed
+    unfolding round roundTimes aimedTimes footed ridden opened
     aimed-is = refl
 
-    pub round-state : {u : Work} {g′ : Target} → u ≡ roundWork d mode walking n k (g .time .0) w → g′ ≡ aim d k (u .labels .best) gs g
-        → stateOf u g′ ≡ round n (task d mode walking ss gs t) listed k (stateOf w g)
-    round-state {u} {g′} e f =
-        let same : u ≡ workOf (round n (task d mode walking ss gs t) listed k (stateOf w g)) = e ∙ sym round-is in
-        let aims : g′ ≡ (round n (task d mode walking ss gs t) listed k (stateOf w g)) .times .target =
-        f ∙ ap (λ (x : Work). aim d k (x .labels .best) gs g) same ∙ sym aimed-is in
+    pub round-state : {u : Work} {aimed′ : Target} → u ≡ roundWork d mode walking n k (aimed .time .0) w → aimed′ ≡ aim d k (u .labels .best) gs aimed
+        → stateOf u aimed′ ≡ round n (task d mode walking ss gs t) listed k (stateOf w aimed)
+    round-state {u} {aimed′} e f =
+        let same : u ≡ workOf (round n (task d mode walking ss gs t) listed k (stateOf w aimed)) = e ∙ sym round-is in
+        let aims : aimed′ ≡ (round n (task d mode walking ss gs t) listed k (stateOf w aimed)) .times .target =
+        f ∙ ap (λ (x : Work). aim d k (x .labels .best) gs aimed) same ∙ sym aimed-is in
         λ i. stateOf (same i) (aims i)
 
     -- what the model knows is what the parts of the round ask
-    pub ready : {target : ℕ} → k < 15 → target ≡ g .time .0 → Ready d mode walking n k target w
+    pub ready : {target : ℕ} → k < MOST-ROUNDS → target ≡ aimed .time .0 → Ready d mode walking n k target w
     ready {target} lt e = record {
       early = lt;
       placed = fit;
@@ -67,41 +68,41 @@ module _ (n : Net) (d : Direction) (mode : Mode) (walking : Bool) (ss gs : List 
       where
         fit : Placed d n (openedBy mode d n w)
         fit = unfold openedBy openedWork opened picks in
-            picks-placed n (task d mode walking ss gs t) ((stateOf w g) .times) (h .known .route-marks) (openedBy mode d n w) refl refl
+            picks-placed n (task d mode walking ss gs t) ((stateOf w aimed) .times) (h .known .route-marks) (openedBy mode d n w) refl refl
 
         fits : k * n .stops + n .stops ≤ length (w .parents)
         fits = rw (h .known .long) (omega (arith, mul-le-mul-right {m = suc k} {n = 15} (n .stops) lt))
 
-        left : ridesWork d n k (g .time .0) (openedBy mode d n w)
+        left : ridesWork d n k (aimed .time .0) (openedBy mode d n w)
             ≡ workOf (record {
-              times = ridden n (task d mode walking ss gs t) listed k ((stateOf w g) .times);
-              parents = riddenParents n (task d mode walking ss gs t) listed k ((stateOf w g) .times) (w .parents);
+              times = ridden n (task d mode walking ss gs t) listed k ((stateOf w aimed) .times);
+              parents = riddenParents n (task d mode walking ss gs t) listed k ((stateOf w aimed) .times) (w .parents);
             })
         left = unfold openedBy openedWork opened picks ridden riddenParents rideHalf listed in
-            rides-fused d n k (record { times = opened n (task d mode walking ss gs t) ((stateOf w g) .times); parents = w .parents })
+            rides-fused d n k (record { times = opened n (task d mode walking ss gs t) ((stateOf w aimed) .times); parents = w .parents })
 
         foot : Footing (n .stops) (holding (workOf (record {
-          times = ridden n (task d mode walking ss gs t) listed k ((stateOf w g) .times);
-          parents = riddenParents n (task d mode walking ss gs t) listed k ((stateOf w g) .times) (w .parents);
+          times = ridden n (task d mode walking ss gs t) listed k ((stateOf w aimed) .times);
+          parents = riddenParents n (task d mode walking ss gs t) listed k ((stateOf w aimed) .times) (w .parents);
         })))
         foot =
-            ridden-footing n (h .sound) (task d mode walking ss gs t) listed listed-fair k ((stateOf w g) .times) (w .parents) _
+            ridden-footing n (h .sound) (task d mode walking ss gs t) listed listed-fair k ((stateOf w aimed) .times) (w .parents) _
             (h .known .whole) fits (h .known .route-marks)
 
     -- the round loop
-    pub search-on : {u : Work} {g′ : Target} {b : Bool} → k < 15 → b ≡ anyOf (w .labels .mark) → b ≡ true
-        → u ≡ roundWork d mode walking n k (g .time .0) w → g′ ≡ aim d k (u .labels .best) gs g
-        → Rounds n (task d mode walking ss gs t) (k + 1) (stateOf u g′)
+    pub search-on : {u : Work} {aimed′ : Target} {b : Bool} → k < MOST-ROUNDS → b ≡ anyOf (w .labels .mark) → b ≡ true
+        → u ≡ roundWork d mode walking n k (aimed .time .0) w → aimed′ ≡ aim d k (u .labels .best) gs aimed
+        → Rounds n (task d mode walking ss gs t) (k + 1) (stateOf u aimed′)
     search-on lt eb is e f = rounds-next h lt (sym eb ∙ is) (round-state e f)
 
-    pub search-ends : {u : Work} {b : Bool} → k < 15 → b ≡ anyOf (w .labels .mark) → b ≡ false → u ≡ swapped (n .stops) w
-        → stateOf u g ≡ search n (task d mode walking ss gs t) listed
+    pub search-ends : {u : Work} {b : Bool} → k < MOST-ROUNDS → b ≡ anyOf (w .labels .mark) → b ≡ false → u ≡ swapped (n .stops) w
+        → stateOf u aimed ≡ search n (task d mode walking ss gs t) listed
     unfolding ended
     search-ends {u} lt eb is e =
         rounds-end h lt (sym eb ∙ is)
-        (ap (λ (x : Work). stateOf x g) (e ∙ ended-is n (task d mode walking ss gs t) (stateOf w g)))
+        (ap (λ (x : Work). stateOf x aimed) (e ∙ ended-is n (task d mode walking ss gs t) (stateOf w aimed)))
 
-    pub search-done : 15 ≤ k → stateOf w g ≡ search n (task d mode walking ss gs t) listed
+    pub search-done : MOST-ROUNDS ≤ k → stateOf w aimed ≡ search n (task d mode walking ss gs t) listed
     search-done le = rounds-all h le
 
   below-in : (l : List ℕ) → Below (n .stops) l → (s : ℕ) → List·Memᴰ s l → s < n .stops

@@ -61,21 +61,21 @@ pub record Passing : Type 0 where
   pub q : Share
   pub q′ : Share
   pub words : RefT (List ℕ)
-  pub n : ℕ
-  pub m : ℕ
+  pub stops : ℕ
+  pub routes : ℕ
   pub d : Direction
   pub k : ℕ
   pub goals : RefT (List ℕ)
 
 -- what is required of them
 abbrev pub Laid : Passing → Type 0
-Laid p = Words (p .n) (p .m) (p .words .now)
+Laid p = Words (p .stops) (p .routes) (p .words .now)
 
 abbrev pub Under : Passing → Type 0
-Under p = Below (p .n) (p .goals .now)
+Under p = Below (p .stops) (p .goals .now)
 
 abbrev pub found : Passing → Target → Target
-found p g = aim (p .d) (p .k) (bestOf (p .n) (p .m) (p .words .now)) (p .goals .now) g
+found p aimed = aim (p .d) (p .k) (bestOf (p .stops) (p .routes) (p .words .now)) (p .goals .now) aimed
 
 abbrev Seven : Type 0 → Type 0
 Seven X = RefT (List ℕ) × (ℕ × (ℕ × (Direction × (ℕ × (RefT (List ℕ) × (X × Unit {0}))))))
@@ -87,15 +87,15 @@ passing κ κ′ q q′ a = record {
   q = q;
   q′ = q′;
   words = a .0;
-  n = a .1 .0;
-  m = a .1 .1 .0;
+  stops = a .1 .0;
+  routes = a .1 .1 .0;
   d = a .1 .1 .1 .0;
   k = a .1 .1 .1 .1 .0;
   goals = a .1 .1 .1 .1 .1 .0;
 }
 
 abbrev pub with-last : {X : Type 0} → Passing → X → Seven X
-with-last p x = (p .words, (p .n, (p .m, (p .d, (p .k, (p .goals, (x, tt)))))))
+with-last p x = (p .words, (p .stops, (p .routes, (p .d, (p .k, (p .goals, (x, tt)))))))
 
 abbrev Lists : Type 0
 Lists = List Val × (List Val × (List Val × (List Val × (List Val × (List Val × (List Val × Unit {0}))))))
@@ -108,36 +108,36 @@ dir-vals d = EL.vals D.the-type D′.the-laws d
 
 abbrev pub vals-with : Passing → List Val → Lists
 vals-with p vs =
-    (slice-vals (p .words), (num-vals (p .n), (num-vals (p .m), (dir-vals (p .d), (num-vals (p .k), (slice-vals (p .goals), (vs, tt)))))))
+    (slice-vals (p .words), (num-vals (p .stops), (num-vals (p .routes), (dir-vals (p .d), (num-vals (p .k), (slice-vals (p .goals), (vs, tt)))))))
 
 -- ---- the record
 abbrev pub Row : RattleType
 Row = T.the-row
 
 abbrev pub mach : Target → Val
-mach g = LL.val T.the-type T′.the-laws g
+mach aimed = LL.val T.the-type T′.the-laws aimed
 
 module _ {M : Type 1} (𝓤 : URA M) (H : Heap 𝓤) (A : Atoms 𝓤) (W : Given 𝓤 H A) where
-  pub typed : (g : Target) (v : Val) → Is Row g (v ∷ []) → Holds (hasTy T′.mir v) × WT v
-  typed g v is = LL.lawful T.the-type T′.the-laws 𝓤 H A W .typed g (v ∷ []) is .0
+  pub typed : (aimed : Target) (v : Val) → Is Row aimed (v ∷ []) → Holds (hasTy T′.mir v) × WT v
+  typed aimed v is = LL.lawful T.the-type T′.the-laws 𝓤 H A W .typed aimed (v ∷ []) is .0
 
-  module _ (b o : ℕ) (g : Target) where
+  module _ (b o : ℕ) (aimed : Target) where
     abbrev Local : SProp 𝓤
-    Local = sep 𝓤 (sem 𝓤 H A (fat fullShare T′.mir b o (mach g))) (sem 𝓤 H A (Row .own g (mach g ∷ [])))
+    Local = sep 𝓤 (sem 𝓤 H A (fat fullShare T′.mir b o (mach aimed))) (sem 𝓤 H A (Row .own aimed (mach aimed ∷ [])))
 
-    pub lies-in : ent 𝓤 Local (sem 𝓤 H A (partAt Row fullShare g b o))
+    pub lies-in : ent 𝓤 Local (sem 𝓤 H A (partAt Row fullShare aimed b o))
     unfolding partOf
     lies-in =
-        qed W (‵ (fat fullShare T′.mir b o (mach g)) ∷ ‵ (Row .own g (mach g ∷ [])) ∷ []) ∵
-        use1 W (‵ (fat fullShare (rawTy T′.mir) b o (mach g))) (W .laws .at-raw fullShare T′.mir b o (mach g)) $ fjoin ! $
-        fpack ! (List Val) (λ us. fsep (cellAt fullShare (Row .mir) us b o) (Row .own g us)) (mach g ∷ []) $ done !
+        qed W (‵ (fat fullShare T′.mir b o (mach aimed)) ∷ ‵ (Row .own aimed (mach aimed ∷ [])) ∷ []) ∵
+        use1 W (‵ (fat fullShare (rawTy T′.mir) b o (mach aimed))) (W .laws .at-raw fullShare T′.mir b o (mach aimed)) $ fjoin ! $
+        fpack ! (List Val) (λ us. fsep (cellAt fullShare (Row .mir) us b o) (Row .own aimed us)) (mach aimed ∷ []) $ done !
 
-    pub lies-out : ent 𝓤 (sem 𝓤 H A (partAt Row fullShare g b o)) Local
+    pub lies-out : ent 𝓤 (sem 𝓤 H A (partAt Row fullShare aimed b o)) Local
     unfolding partOf
     lies-out =
-        qed W (‵ (partAt Row fullShare g b o) ∷ []) ∵ fpick ! (λ vs. fsplit ! $
-        spelt ! Row (Is Row) (shows 𝓤 H A Row) (LL.vals T.the-type T′.the-laws) (LL.tells T.the-type T′.the-laws) fullShare g vs b o $
-        use1 W (‵ (fat fullShare T′.mir b o (mach g))) (W .laws .raw-at fullShare T′.mir b o (mach g)) $ done !)
+        qed W (‵ (partAt Row fullShare aimed b o) ∷ []) ∵ fpick ! (λ vs. fsplit ! $
+        spelt ! Row (Is Row) (shows 𝓤 H A Row) (LL.vals T.the-type T′.the-laws) (LL.tells T.the-type T′.the-laws) fullShare aimed vs b o $
+        use1 W (‵ (fat fullShare T′.mir b o (mach aimed))) (W .laws .raw-at fullShare T′.mir b o (mach aimed)) $ done !)
 
 -- ---- parameters that are Copy
 module _ {M : Type 1} (𝓤 : URA M) (H : Heap 𝓤) (A : Atoms 𝓤) where
@@ -182,7 +182,7 @@ module _ {M : Type 1} (𝓤 : URA M) (H : Heap 𝓤) (A : Atoms 𝓤) (W : Given
 
   abbrev six : List (Passed 𝓤 H A)
   six =
-      a-slice 0 (p .κ) (p .words) ∷ a-number (p .n) ∷ a-number (p .m)
+      a-slice 0 (p .κ) (p .words) ∷ a-number (p .stops) ∷ a-number (p .routes)
       ∷ record { row = D.the-row; value = p .d; vals = dir-vals (p .d); copy = EL.copy D.the-type D′.the-copy 𝓤 H A W }
       ∷ a-number (p .k) ∷ a-slice 1 (p .κ′) (p .goals) ∷ []
 
@@ -265,12 +265,12 @@ module _ (κ κ′ : Lft) (R : RattleType) where
         let goals = shr-slice-lawful 𝓤 H A W (named 1) κ′ u32 in
         all-typed 𝓤 H A (rows κ κ′ R) (words, (number, (number, (direction, (number, (goals, (law, tt)))))))
 
--- ---- the six at exit, where the signature has n lifetimes, and a last parameter at the slot s
-module _ (n : ℕ) (ok : AllWithin n (0 ∷ [])) (ok′ : AllWithin n (1 ∷ [])) (s : Slot n) (stay : Stay s yes) where
-  abbrev number : Slot n
+-- ---- the six at exit, where the signature has so many lifetimes, and a last parameter at the slot s
+module _ (many : ℕ) (ok : AllWithin many (0 ∷ [])) (ok′ : AllWithin many (1 ∷ [])) (s : Slot many) (stay : Stay s yes) where
+  abbrev number : Slot many
   number = plain (λ _. u32)
 
-  abbrev slots : List (Slot n)
+  abbrev slots : List (Slot many)
   slots = shrSliceOf (0 ∷ []) ok number ∷ number ∷ number ∷ plain (λ _. D.the-row) ∷ number ∷ shrSliceOf (1 ∷ []) ok′ number ∷ s ∷ []
 
   abbrev kept : Kepts slots
@@ -278,19 +278,19 @@ module _ (n : ℕ) (ok : AllWithin n (0 ∷ [])) (ok′ : AllWithin n (1 ∷ [])
 
   abbrev pub stays : Stays slots kept
   stays =
-      let still = stay-none {n = n} (λ _. u32) yes in
-      let direction = stay-none {n = n} (λ _. D.the-row) yes in
+      let still = stay-none {n = many} (λ _. u32) yes in
+      let direction = stay-none {n = many} (λ _. D.the-row) yes in
       let words = stay-none-slice (0 ∷ []) ok number yes in
       let goals = stay-none-slice (1 ∷ []) ok′ number yes in
       (words, (still, (still, (direction, (still, (goals, (stay, tt)))))))
 
   module _ {M : Type 1} (𝓤 : URA M) (H : Heap 𝓤) (A : Atoms 𝓤) (W : Given 𝓤 H A) where
-    pub all-go : Goes 𝓤 H A W n s yes stay → AllGo 𝓤 H A W n slots kept stays
+    pub all-go : Goes 𝓤 H A W many s yes stay → AllGo 𝓤 H A W many slots kept stays
     all-go go =
-        let still = goes-none 𝓤 H A W n (λ _. u32) yes (λ κs x f. refl) in
-        let direction = goes-none 𝓤 H A W n (λ _. D.the-row) yes (λ κs x f. refl) in
-        let words = goes-none-slice 𝓤 H A W n (0 ∷ []) ok number yes in
-        let goals = goes-none-slice 𝓤 H A W n (1 ∷ []) ok′ number yes in
+        let still = goes-none 𝓤 H A W many (λ _. u32) yes (λ κs x f. refl) in
+        let direction = goes-none 𝓤 H A W many (λ _. D.the-row) yes (λ κs x f. refl) in
+        let words = goes-none-slice 𝓤 H A W many (0 ∷ []) ok number yes in
+        let goals = goes-none-slice 𝓤 H A W many (1 ∷ []) ok′ number yes in
         (words, (still, (still, (direction, (still, (goals, (go, tt)))))))
 
 -- ---- two steps of a walk

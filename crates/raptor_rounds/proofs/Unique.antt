@@ -12,20 +12,20 @@ use Rattle.allocator.specs.Layout.{Sized, view}
 use Rattle.allocator.specs.Tidy.{Tidy}
 use Rattle.allocator.proofs.Unique.{Leaves, leaves-unique}
 
--- the slices w and m were lent; the target g is given, and v and n are left
-pub record Searches (s r : ℕ) (w m : List ℕ) (x : State) (g : Target) (v n : List ℕ) : Type 0 where
-  pub is : stateOf (view s r v n) g ≡ x
-  pub tidy : Tidy s r v n
-  pub words-long : length v ≡ length w
-  pub marks-long : length n ≡ length m
+-- the slices ws and ms were lent; the target `aimed` is given, and ws′ and ms′ are left
+pub record Searches (stops routes : ℕ) (ws ms : List ℕ) (x : State) (aimed : Target) (ws′ ms′ : List ℕ) : Type 0 where
+  pub is : stateOf (view stops routes ws′ ms′) aimed ≡ x
+  pub tidy : Tidy stops routes ws′ ms′
+  pub words-long : length ws′ ≡ length ws
+  pub marks-long : length ms′ ≡ length ms
 
-module _ {s r : ℕ} {w m : List ℕ} {x : State} where
-  leaves : {g : Target} {v n : List ℕ} → Searches s r w m x g v n → Leaves s r w m (workOf x) v n
+module _ {stops routes : ℕ} {ws ms : List ℕ} {x : State} where
+  leaves : {aimed : Target} {ws′ ms′ : List ℕ} → Searches stops routes ws ms x aimed ws′ ms′ → Leaves stops routes ws ms (workOf x) ws′ ms′
   leaves h = record { is = ap workOf (h .is); tidy = h .tidy; words-long = h .words-long; marks-long = h .marks-long }
 
-  aims : {g : Target} {v n : List ℕ} → Searches s r w m x g v n → g ≡ x .times .target
+  aims : {aimed : Target} {ws′ ms′ : List ℕ} → Searches stops routes ws ms x aimed ws′ ms′ → aimed ≡ x .times .target
   aims h = ap (λ (y : State). y .times .target) (h .is)
 
-  pub search-unique : {g g′ : Target} {v n v′ n′ : List ℕ} → Sized s r w m → Searches s r w m x g v n → Searches s r w m x g′ v′ n′
-      → (g ≡ g′) × (v ≡ v′) × (n ≡ n′)
+  pub search-unique : {aimed aimed′ : Target} {ws′ ms′ ws″ ms″ : List ℕ} → Sized stops routes ws ms → Searches stops routes ws ms x aimed ws′ ms′ → Searches stops routes ws ms x aimed′ ws″ ms″
+      → (aimed ≡ aimed′) × (ws′ ≡ ws″) × (ms′ ≡ ms″)
   search-unique z a b = let same = leaves-unique z (leaves a) (leaves b) in (aims a ∙ sym (aims b), same .0, same .1)

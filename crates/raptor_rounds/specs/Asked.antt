@@ -14,11 +14,11 @@ use Rattle.base.specs.Below.{Below}
 abbrev pub taskBetween : Ask → List ℕ → List ℕ → Task
 taskBetween a starts goals = task (a .direction) (a .mode) (a .walking) starts goals (a .moment .0)
 
--- the words w and the marks m hold a cleared workspace in which the start stops are labelled
-pub record Begun (tables : List ℕ) (a : Ask) (starts goals w m : List ℕ) : Type 0 where
+-- the words ws and the marks ms hold a cleared workspace in which the start stops are labelled
+pub record Begun (tables : List ℕ) (a : Ask) (starts goals ws ms : List ℕ) : Type 0 where
   pub tabled : Tabled tables (a .stops) (a .routes)
-  pub usable : Usable (a .stops) (a .routes) w m
+  pub usable : Usable (a .stops) (a .routes) ws ms
   pub starts-in : Below (a .stops) starts
   pub goals-in : Below (a .stops) goals
   pub moment : 0 < a .moment .0
-  pub holds : view (a .stops) (a .routes) w m ≡ startedAll (a .moment .0) starts (cleared (a .stops) (a .routes) (a .direction))
+  pub holds : view (a .stops) (a .routes) ws ms ≡ startedAll (a .moment .0) starts (cleared (a .stops) (a .routes) (a .direction))

@@ -9,4 +9,4 @@ use Rattle.model.specs.Moments.{better}
 
 -- the target after one goal: "taking strict improvements only"
 unfoldable pub taken : Direction → ℕ → List ℕ → ℕ → Target → Target
-taken d k best s g = cond (better d (getD best s 0) (g .time .0)) (record { stop = s; round = k; time = record { 0 = getD best s 0 } }) g
+taken d k best s aimed = cond (better d (getD best s 0) (aimed .time .0)) (record { stop = s; round = k; time = record { 0 = getD best s 0 } }) aimed

@@ -1,4 +1,4 @@
-// The limits of document 01 that the check tests, as Limits.antt has them.
+// The limits of document 01 that the check tests, and how many rounds a search has, as Limits.antt has them.
 pub const MOST_STOPS: usize = 4_096;
 
 pub const MOST_ROUTES: usize = 1_024;
@@ -16,6 +16,8 @@ pub const MOST_WALKS: usize = 32_768;
 pub const MOST_AREAS: usize = 1_024;
 
 pub const MOST_AREA_ENTRIES: usize = 16_384;
+
+pub const MOST_ROUNDS: u32 = 15;
 
 pub const LAST_MOMENT: u32 = 1_000_000;
 

@@ -3,18 +3,19 @@ use borrow.Author.Needs.{needs}
 use Prim.Native.Nat.{_-_}
 use mathlib.Core.Path.{_≡_}
 use lib.ListN.{length}
+use Rattle.model.specs.Limits.{MOST-ROUNDS}
 use Rattle.raptor_rounds.specs.Asked.{taskBetween}
 use Rattle.raptor_rounds.proofs.Loop.{At, at-start, at-tabled, at-goals, at-ready, at-next, at-end, at-all, at-usable}
 use Rattle.raptor_rounds.proofs.rounds.Statement.{statement}
 use Rattle.raptor_rounds.proofs.rounds.Tie as tie
 
 abbrev Inv-loop : tie.InvT-loop
-Inv-loop tables words₀ marks₀ a starts goals g₀ k₀ words marks g k =
-    At tables (a .stops) (a .routes) (taskBetween a starts goals) k words marks g
+Inv-loop tables words₀ marks₀ a starts goals aimed₀ k₀ words marks aimed k =
+    At tables (a .stops) (a .routes) (taskBetween a starts goals) k words marks aimed
     × (length words ≡ length words₀) × (length marks ≡ length marks₀)
 
 abbrev μ-loop : tie.MeasureT-loop
-μ-loop tables words₀ marks₀ a starts goals g₀ k₀ words marks g k = 15 - k
+μ-loop tables words₀ marks₀ a starts goals aimed₀ k₀ words marks aimed k = MOST-ROUNDS - k
 
 loop-holds : tie.Need-loop-holds Inv-loop μ-loop
 loop-holds c = (search (needs, at-start), search needs, search needs)

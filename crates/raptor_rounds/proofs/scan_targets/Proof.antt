@@ -9,10 +9,10 @@ use Rattle.raptor_rounds.proofs.scan_targets.Statement.{statement}
 use Rattle.raptor_rounds.proofs.scan_targets.Tie as tie
 
 abbrev Inv-loop : tie.InvT-loop
-Inv-loop words n m d k goals seen₀ i₀ seen i = Scanned d k (bestOf n m words) goals seen₀ seen i
+Inv-loop words stops routes d k goals seen₀ i₀ seen i = Scanned d k (bestOf stops routes words) goals seen₀ seen i
 
 abbrev μ-loop : tie.MeasureT-loop
-μ-loop words n m d k goals seen₀ i₀ seen i = length goals - i
+μ-loop words stops routes d k goals seen₀ i₀ seen i = length goals - i
 
 loop-holds : tie.Need-loop-holds Inv-loop μ-loop
 loop-holds c = search (needs, scanned-none)

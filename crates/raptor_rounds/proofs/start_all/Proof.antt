@@ -11,12 +11,12 @@ use Rattle.raptor_rounds.proofs.start_all.Statement.{statement}
 use Rattle.raptor_rounds.proofs.start_all.Tie as tie
 
 abbrev Inv-loop : tie.InvT-loop
-Inv-loop words₀ marks₀ n m starts t i₀ words marks i =
-    Starting (t .0) starts (view n m words₀ marks₀) (view n m words marks) i × Usable n m words marks
+Inv-loop words₀ marks₀ stops routes starts t i₀ words marks i =
+    Starting (t .0) starts (view stops routes words₀ marks₀) (view stops routes words marks) i × Usable stops routes words marks
     × (length words ≡ length words₀) × (length marks ≡ length marks₀)
 
 abbrev μ-loop : tie.MeasureT-loop
-μ-loop words₀ marks₀ n m starts t i₀ words marks i = length starts - i
+μ-loop words₀ marks₀ stops routes starts t i₀ words marks i = length starts - i
 
 loop-holds : tie.Need-loop-holds Inv-loop μ-loop
 loop-holds c = (search (needs, starting-none), search needs, search needs, search needs)

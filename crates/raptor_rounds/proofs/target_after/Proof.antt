@@ -68,7 +68,7 @@ module _ {M : Type 1} (𝓤 : URA M) (H : Heap 𝓤) (A : Atoms 𝓤) (at-mem : 
   Update = tripleOf 𝓤 H A update.signature (update.spec 𝓤 H A at-mem run)
 
 module _ {M : Type 1} (𝓤 : URA M) (H : Heap 𝓤) (A : Atoms 𝓤) (W : Given 𝓤 H A) (at-mem : Memory → SProp 𝓤) (run : Routine → Fun 𝓤)
-    (p : Passing) (g : Target) where
+    (p : Passing) (aimed : Target) where
   abbrev κs : Lfts 2
   κs = (p .κ, (p .κ′, tt))
 
@@ -76,14 +76,14 @@ module _ {M : Type 1} (𝓤 : URA M) (H : Heap 𝓤) (A : Atoms 𝓤) (W : Given
   qs = (p .q, (p .q′, tt))
 
   abbrev a : Args after.signature κs
-  a = with-last p g
+  a = with-last p aimed
 
   abbrev at : Vals after.signature κs
-  at = vals-with p (mach g ∷ [])
+  at = vals-with p (mach aimed ∷ [])
 
   -- the record as the call leaves it, and what a record owns
-  abbrev g′ : Target
-  g′ = found p g
+  abbrev aimed′ : Target
+  aimed′ = found p aimed
 
   abbrev Own : Target → Fml
   Own r = Row .own r (mach r ∷ [])
@@ -95,7 +95,7 @@ module _ {M : Type 1} (𝓤 : URA M) (H : Heap 𝓤) (A : Atoms 𝓤) (W : Given
   -- what it is passed, that what it asks is had, and what is known of the record's last value
   module _ (ν l : ℕ) (δ : GName) where
     abbrev target : RefT Target
-    target = record { ptr = (l, 0); name = δ; now = g }
+    target = record { ptr = (l, 0); name = δ; now = aimed }
 
     abbrev Lends : Fml
     Lends = MutRef (named 2) (ν ∷ []) Row .own target (ptr-vals target)
@@ -116,21 +116,21 @@ module _ {M : Type 1} (𝓤 : URA M) (H : Heap 𝓤) (A : Atoms 𝓤) (W : Given
         suffices ! _ (says-two 𝓤 _ _ _ laid below) $ frame ! $
         nothing ! $ move ! (2 ∷ 0 ∷ []) $ fjoin ! $ move ! (1 ∷ 0 ∷ []) $ by ! (six-in 𝓤 H A W p (fsep Lends ftrue))
 
-    told : ent 𝓤 Ensured (A .res δ (Row .coded .code g′))
+    told : ent 𝓤 Ensured (A .res δ (Row .coded .code aimed′))
     told = exE 𝓤 _ (λ (ws : Lasts update.ended νs (with-last p target)).
         let r = ws .1 .1 .1 .1 .1 .1 .0 in
-        qed W (‵ (lasts update.ended νs (with-last p target) ws) ∷ raw (fact 𝓤 (r ≡ g′)) ∷ []) ∵ move ! (1 ∷ []) $ heard ! (r ≡ g′) (λ e.
+        qed W (‵ (lasts update.ended νs (with-last p target) ws) ∷ raw (fact 𝓤 (r ≡ aimed′)) ∷ []) ∵ move ! (1 ∷ []) $ heard ! (r ≡ aimed′) (λ e.
         fsplit ! $ drop ! $ fsplit ! $ drop ! $ fsplit ! $ drop ! $ fsplit ! $ drop ! $ fsplit ! $ drop ! $ fsplit ! $ drop ! $ fsplit ! $
         rewrite ! 0 (λ (x : Target). ‵ (fres δ (Row .coded .code x))) e refl $ keep ! (0 ∷ []) $ done !))
 
   -- at exit: the tokens, what the six own, what the record that was passed owns, and what the result owns
-  exits : ent 𝓤 (⋆ 𝓤 H A (Two 𝓤 H A p ∷ ‵ (Six 𝓤 H A W p) ∷ ‵ (Own g) ∷ ‵ (Own g′) ∷ [])) (Post (mach g′))
+  exits : ent 𝓤 (⋆ 𝓤 H A (Two 𝓤 H A p ∷ ‵ (Six 𝓤 H A W p) ∷ ‵ (Own aimed) ∷ ‵ (Own aimed′) ∷ [])) (Post (mach aimed′))
   exits =
-      qed W (Two 𝓤 H A p ∷ ‵ (Six 𝓤 H A W p) ∷ ‵ (Own g) ∷ ‵ (Own g′) ∷ []) ∵
-      suffices ! _ (ends-at 𝓤 H A after.ended stayed (after.clauses 𝓤 H A at-mem run) W ((κs, qs, tt, a, at), tt) (mach g′) g′
+      qed W (Two 𝓤 H A p ∷ ‵ (Six 𝓤 H A W p) ∷ ‵ (Own aimed) ∷ ‵ (Own aimed′) ∷ []) ∵
+      suffices ! _ (ends-at 𝓤 H A after.ended stayed (after.clauses 𝓤 H A at-mem run) W ((κs, qs, tt, a, at), tt) (mach aimed′) aimed′
       (tt, (tt, (tt, (tt, (tt, (tt, (tt, tt))))))) (tt, (tt, (tt, (tt, (tt, (tt, (tt, tt)))))))) $ says ! refl $ frame ! $
       nothing ! $ move ! (2 ∷ 0 ∷ []) $ fjoin ! $ move ! (1 ∷ 0 ∷ []) $
-      use2 W (‵ (All 𝓤 H A W p (fsep (Own g) ftrue))) (six-in 𝓤 H A W p (fsep (Own g) ftrue)) $ frame ! $ done !
+      use2 W (‵ (All 𝓤 H A W p (fsep (Own aimed) ftrue))) (six-in 𝓤 H A W p (fsep (Own aimed) ftrue)) $ frame ! $ done !
 
   module _ (C : Calls 𝓤 H) (Λ : Loops 𝓤 H) (fm : FmC 𝓤 H (W .laws) C)
       (known : Triple 𝓤 (C #raptor-rounds·update-target) (Update 𝓤 H A at-mem run)) where
@@ -141,8 +141,8 @@ module _ {M : Type 1} (𝓤 : URA M) (H : Heap 𝓤) (A : Atoms 𝓤) (W : Given
         let is = are .1 .1 .1 .1 .1 .1 .0 in
         let ok = fit (p .κ) (p .κ′) Row 𝓤 H A W (LL.lawful T.the-type T′.the-laws 𝓤 H A W) a at are in
         -- what is had at entry: the tokens, what the six own, twice, and what the record owns
-        qed W (Two 𝓤 H A p ∷ ‵ (All 𝓤 H A W p (fsep (Own g) ftrue)) ∷ []) ∵ move ! (1 ∷ []) $
-        use1 W (‵ (Six 𝓤 H A W p) ⊛ ‵ (Six 𝓤 H A W p) ⊛ ‵ (fsep (Own g) ftrue)) (six-out 𝓤 H A W p (fsep (Own g) ftrue)) $ split3 ! $
+        qed W (Two 𝓤 H A p ∷ ‵ (All 𝓤 H A W p (fsep (Own aimed) ftrue)) ∷ []) ∵ move ! (1 ∷ []) $
+        use1 W (‵ (Six 𝓤 H A W p) ⊛ ‵ (Six 𝓤 H A W p) ⊛ ‵ (fsep (Own aimed) ftrue)) (six-out 𝓤 H A W p (fsep (Own aimed) ftrue)) $ split3 ! $
         move ! (2 ∷ []) $ fsplit ! $
         -- [what the record owns; true; what the six own; the same again; the two tokens]
         enter ! C Λ code.function (flat (typesAt (after.signature .params) κs) at) _ $
@@ -153,13 +153,13 @@ module _ {M : Type 1} (𝓤 : URA M) (H : Heap 𝓤) (A : Atoms 𝓤) (W : Given
         pass1 ! (init ! 8 refl (ok .1 .1 .1 .1 .1 .0)) $ pass1 ! (init ! 6 refl (ok .1 .1 .1 .1 .1 .1 .0)) $ pass0 ! $
         -- [_10; …; _9; …; _8; …; _7; …; _6; …; _5; …; _4; …; _3; …; _2; …; _1; …; _0; …; what the record owns; true; what the six own;
         -- the same again; the two tokens], where … frees the local before it
-        assigns ! (of-opd ! (held ! 6 refl)) (from ! (stop !)) (init ! 4 refl (typed 𝓤 H A W g (mach g) is)) $
+        assigns ! (of-opd ! (held ! 6 refl)) (from ! (stop !)) (init ! 4 refl (typed 𝓤 H A W aimed (mach aimed) is)) $
         assigns ! (addr ! (from ! (stop !))) (from ! (stop !)) (init ! 0 refl (tt, tt)) $
         -- _8 is lent for a new lifetime
-        owned ! Row (Is Row) (LL.makes T.the-type T′.the-plain 𝓤 H A) g _ is $ move ! (5 ∷ 0 ∷ []) $
-        use2 W (‵ (partAt Row fullShare g l₈ 0)) (lies-in 𝓤 H A W l₈ 0 g) $ lft-new ! tt (λ ν. move ! (1 ∷ []) $
+        owned ! Row (Is Row) (LL.makes T.the-type T′.the-plain 𝓤 H A) aimed _ is $ move ! (5 ∷ 0 ∷ []) $
+        use2 W (‵ (partAt Row fullShare aimed l₈ 0)) (lies-in 𝓤 H A W l₈ 0 aimed) $ lft-new ! tt (λ ν. move ! (1 ∷ []) $
         use1 W (later (some (λ (δ : GName). ‵ (Lends ν l₈ δ) ⊛ ‵ (flent (ν ∷ []) (Body (mem Row) l₈ 0 δ)))))
-        (lends-ref 𝓤 H A W Row (named 2) (ν ∷ []) g l₈ 0) $ await ! tt $ pick ! (λ δ. split ! $
+        (lends-ref 𝓤 H A W Row (named 2) (ν ∷ []) aimed l₈ 0) $ await ! tt $ pick ! (λ δ. split ! $
         -- [the reference; the lender's part; the new token; _10; …; _9; …; what frees _8; _7; …; _0; …; what the record owns; true;
         -- what the six own; the same again; the two tokens]
         move ! (28 ∷ 2 ∷ []) $ use2 W (Three 𝓤 H A p (ν ∷ []) fullShare) (third-in 𝓤 H A p (ν ∷ []) fullShare) $
@@ -169,19 +169,19 @@ module _ {M : Type 1} (𝓤 : URA M) (H : Heap 𝓤) (A : Atoms 𝓤) (W : Given
         (and-then ! (held ! 11 refl) (and-then ! (held ! 9 refl) (and-then ! (held ! 2 refl) (no-more !)))))))) (λ v.
         use1 W (later (some (λ (u : Unit {0}). (Three 𝓤 H A p (ν ∷ []) fullShare ⊛ ‵ (unit .own u (v ∷ []))) ⊛ raw (Ensured ν l₈ δ))))
         (id⊢ 𝓤 _) $ await ! tt $ pick ! (λ u.
-        split ! $ move ! (1 ∷ []) $ use1 W (‵ (fres δ (Row .coded .code g′))) (told ν l₈ δ) $ move ! (1 ∷ []) $ split ! $ move ! (1 ∷ []) $
+        split ! $ move ! (1 ∷ []) $ use1 W (‵ (fres δ (Row .coded .code aimed′))) (told ν l₈ δ) $ move ! (1 ∷ []) $ split ! $ move ! (1 ∷ []) $
         -- [the result; the three tokens; the record's last value; the lender's part; _10; …; _9; …]
         peeks ! unit (Is unit) (shows 𝓤 H A unit) u (v ∷ []) (λ is-unit.
         land ! (from ! (stop !)) (init ! 6 refl (nothing-lawful 𝓤 H A W .typed u _ is-unit .0)) $ drop ! $
         -- the lifetime is ended, and _8 is taken back at the record's last value
         use1 W (Two 𝓤 H A p ⊛ ‵ (flft (ν ∷ []) fullShare)) (third-out 𝓤 H A p (ν ∷ []) fullShare) $ split ! $ move ! (1 ∷ []) $
         lft-end ! tt $ move ! (0 ∷ 3 ∷ 2 ∷ []) $
-        use3 W (later (‵ (partAt Row fullShare g′ l₈ 0))) (ref-back 𝓤 H A W Row (ν ∷ []) δ g′ l₈ 0) $ await ! tt $
-        use1 W (‵ (fat fullShare T′.mir l₈ 0 (mach g′)) ⊛ ‵ (Own g′)) (lies-out 𝓤 H A W l₈ 0 g′) $ split ! $
-        move ! (1 ∷ []) $ peeks ! Row (Is Row) (shows 𝓤 H A Row) g′ (mach g′ ∷ []) (λ is′.
+        use3 W (later (‵ (partAt Row fullShare aimed′ l₈ 0))) (ref-back 𝓤 H A W Row (ν ∷ []) δ aimed′ l₈ 0) $ await ! tt $
+        use1 W (‵ (fat fullShare T′.mir l₈ 0 (mach aimed′)) ⊛ ‵ (Own aimed′)) (lies-out 𝓤 H A W l₈ 0 aimed′) $ split ! $
+        move ! (1 ∷ []) $ peeks ! Row (Is Row) (shows 𝓤 H A Row) aimed′ (mach aimed′ ∷ []) (λ is′.
         -- [what the result owns; _8; the two tokens; _10; …; _9; …; what frees _8; _7; …; _0; …; what the record owned; true;
         -- what the six own]
-        assigns ! (of-opd ! (held ! 1 refl)) (from ! (stop !)) (init ! 22 refl (typed 𝓤 H A W g′ (mach g′) is′)) $
+        assigns ! (of-opd ! (held ! 1 refl)) (from ! (stop !)) (init ! 22 refl (typed 𝓤 H A W aimed′ (mach aimed′) is′)) $
         returns ! (look ! 22 refl) $ releases ! 22 refl refl $ releases ! 20 refl refl $ releases ! 18 refl refl $ releases ! 16 refl refl $
         releases ! 14 refl refl $ releases ! 12 refl refl $ releases ! 10 refl refl $ releases ! 8 refl refl $
         move ! (1 ∷ 7 ∷ []) $ releases ! 0 refl refl $ releases ! 4 refl refl $ releases ! 2 refl refl $ free0 ! $

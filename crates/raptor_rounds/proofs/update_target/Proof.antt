@@ -81,8 +81,8 @@ module _ {M : Type 1} (𝓤 : URA M) (H : Heap 𝓤) (A : Atoms 𝓤) (W : Given
   at = vals-with p (ptr-vals target)
 
   -- the record as it is lent, and what it owns at the machine value v
-  abbrev g : Target
-  g = target .now
+  abbrev aimed : Target
+  aimed = target .now
 
   abbrev Own : Target → Val → Fml
   Own r v = Row .own r (v ∷ [])
@@ -96,18 +96,18 @@ module _ {M : Type 1} (𝓤 : URA M) (H : Heap 𝓤) (A : Atoms 𝓤) (W : Given
 
   -- the call: what it is passed, that what it asks is had, and what is known of its result
   abbrev to-scan : Scan 𝓤 H A at-mem run .Ghost
-  to-scan = (((p .κ, (p .κ′, tt)), (p .q, (p .q′, tt)), tt, with-last p g, vals-with p (mach g ∷ [])), tt)
+  to-scan = (((p .κ, (p .κ′, tt)), (p .q, (p .q′, tt)), tt, with-last p aimed, vals-with p (mach aimed ∷ [])), tt)
 
   abbrev Ensured : Target → SProp 𝓤
-  Ensured r = ensured 𝓤 H A scan.ended (scan.clauses 𝓤 H A at-mem run) (p .κ, (p .κ′, tt)) (with-last p g) tt r
+  Ensured r = ensured 𝓤 H A scan.ended (scan.clauses 𝓤 H A at-mem run) (p .κ, (p .κ′, tt)) (with-last p aimed) tt r
 
-  asks : Laid p → Under p → ent 𝓤 (⋆ 𝓤 H A (Two 𝓤 H A p ∷ ‵ (Six 𝓤 H A W p) ∷ ‵ (Own g (mach g)) ∷ [])) (Scan 𝓤 H A at-mem run .pre to-scan)
+  asks : Laid p → Under p → ent 𝓤 (⋆ 𝓤 H A (Two 𝓤 H A p ∷ ‵ (Six 𝓤 H A W p) ∷ ‵ (Own aimed (mach aimed)) ∷ [])) (Scan 𝓤 H A at-mem run .pre to-scan)
   asks laid below =
-      qed W (Two 𝓤 H A p ∷ ‵ (Six 𝓤 H A W p) ∷ ‵ (Own g (mach g)) ∷ []) ∵ suffices ! _ (says-two 𝓤 _ _ _ laid below) $ frame ! $
-      nothing ! $ move ! (2 ∷ 0 ∷ []) $ fjoin ! $ move ! (1 ∷ 0 ∷ []) $ by ! (six-in 𝓤 H A W p (fsep (Own g (mach g)) ftrue))
+      qed W (Two 𝓤 H A p ∷ ‵ (Six 𝓤 H A W p) ∷ ‵ (Own aimed (mach aimed)) ∷ []) ∵ suffices ! _ (says-two 𝓤 _ _ _ laid below) $ frame ! $
+      nothing ! $ move ! (2 ∷ 0 ∷ []) $ fjoin ! $ move ! (1 ∷ 0 ∷ []) $ by ! (six-in 𝓤 H A W p (fsep (Own aimed (mach aimed)) ftrue))
 
-  told : (r : Target) → ent 𝓤 (Ensured r) (fact 𝓤 (r ≡ found p g))
-  told r = exE 𝓤 _ (λ ws. snd∗ 𝓤 (sem 𝓤 H A (lasts scan.ended (p .κ, (p .κ′, tt)) (with-last p g) ws)) (fact 𝓤 (r ≡ found p g)))
+  told : (r : Target) → ent 𝓤 (Ensured r) (fact 𝓤 (r ≡ found p aimed))
+  told r = exE 𝓤 _ (λ ws. snd∗ 𝓤 (sem 𝓤 H A (lasts scan.ended (p .κ, (p .κ′, tt)) (with-last p aimed) ws)) (fact 𝓤 (r ≡ found p aimed)))
 
   -- at exit: the tokens, what the six own, and the borrow at the record r that the scan returned
   abbrev Left : Target → List (Item 𝓤)
@@ -115,7 +115,7 @@ module _ {M : Type 1} (𝓤 : URA M) (H : Heap 𝓤) (A : Atoms 𝓤) (W : Given
       Two 𝓤 H A p ∷ ‵ (flft κ q) ∷ ‵ (Six 𝓤 H A W p) ∷ ‵ (fobs (target .name) (Row .coded .code r))
       ∷ ‵ (fbor κ (Body (mem Row) (target .ptr .0) (target .ptr .1) (target .name))) ∷ []
 
-  exits : (r : Target) → r ≡ found p g → ent 𝓤 (⋆ 𝓤 H A (Left r)) (Post vunit)
+  exits : (r : Target) → r ≡ found p aimed → ent 𝓤 (⋆ 𝓤 H A (Left r)) (Post vunit)
   exits r e =
       qed W (Left r) ∵
       suffices ! _ (ends-at 𝓤 H A update.ended stayed (update.clauses 𝓤 H A at-mem run) W ((κs, qs, tt, a, at), tt) vunit tt
@@ -134,9 +134,9 @@ module _ {M : Type 1} (𝓤 : URA M) (H : Heap 𝓤) (A : Atoms 𝓤) (W : Given
     walk are laid below =
         let ok = fit (p .κ) (p .κ′) (MutRef (named 2) κ Row) 𝓤 H A W (mut-lawful 𝓤 H A W (named 2) κ Row) a at are in
         -- what is had at entry: the tokens, what the six own, twice, and the borrow
-        qed W (Three 𝓤 H A p κ q ∷ ‵ (All 𝓤 H A W p (fsep (Lends g) ftrue)) ∷ []) ∵
+        qed W (Three 𝓤 H A p κ q ∷ ‵ (All 𝓤 H A W p (fsep (Lends aimed) ftrue)) ∷ []) ∵
         use1 W (Two 𝓤 H A p ⊛ ‵ (flft κ q)) (third-out 𝓤 H A p κ q) $ split ! $ move ! (2 ∷ []) $
-        use1 W (‵ (Six 𝓤 H A W p) ⊛ ‵ (Six 𝓤 H A W p) ⊛ ‵ (fsep (Lends g) ftrue)) (six-out 𝓤 H A W p (fsep (Lends g) ftrue)) $ split3 ! $
+        use1 W (‵ (Six 𝓤 H A W p) ⊛ ‵ (Six 𝓤 H A W p) ⊛ ‵ (fsep (Lends aimed) ftrue)) (six-out 𝓤 H A W p (fsep (Lends aimed) ftrue)) $ split3 ! $
         move ! (2 ∷ []) $ fsplit ! $ fsplit3 ! $ drop ! $ move ! (0 ∷ 1 ∷ 6 ∷ 5 ∷ 3 ∷ 4 ∷ []) $
         -- [obs; the borrow; its token; the two tokens; what the six own; the same again; true]
         enter ! C Λ code.function (flat (typesAt (update.signature .params) κs) at) _ $
@@ -146,22 +146,22 @@ module _ {M : Type 1} (𝓤 : URA M) (H : Heap 𝓤) (A : Atoms 𝓤) (W : Given
         pass1 ! (init ! 10 refl (ok .1 .1 .1 .0)) $ pass1 ! (init ! 8 refl (ok .1 .1 .1 .1 .0)) $
         pass1 ! (init ! 6 refl (ok .1 .1 .1 .1 .1 .0)) $ pass1 ! (init ! 4 refl (ok .1 .1 .1 .1 .1 .1 .0)) $ pass0 ! $
         -- the borrow is opened, and the record is copied into _8
-        move ! (20 ∷ 21 ∷ 22 ∷ []) $ opens ! tt Row {h = g} (target .ptr .0) (target .ptr .1) (λ vs.
-        spelt ! Row (Is Row) (shows 𝓤 H A Row) (LL.vals T.the-type T′.the-laws) (LL.tells T.the-type T′.the-laws) fullShare g vs
+        move ! (20 ∷ 21 ∷ 22 ∷ []) $ opens ! tt Row {h = aimed} (target .ptr .0) (target .ptr .1) (λ vs.
+        spelt ! Row (Is Row) (shows 𝓤 H A Row) (LL.vals T.the-type T′.the-laws) (LL.tells T.the-type T′.the-laws) fullShare aimed vs
         (target .ptr .0) (target .ptr .1) $
-        move ! (1 ∷ []) $ peeks ! Row (Is Row) (shows 𝓤 H A Row) g (mach g ∷ []) (λ is. move ! (1 ∷ 0 ∷ []) $
+        move ! (1 ∷ []) $ peeks ! Row (Is Row) (shows 𝓤 H A Row) aimed (mach aimed ∷ []) (λ is. move ! (1 ∷ 0 ∷ []) $
         -- [the record's cell; what it owns; the open borrow; obs; auth; _9; …; _8; …; _7; …; _6; …; _5; …; _4; …; _3; …; _2; …; _1; …;
         -- _0; …; the two tokens; what the six own; the same again; true], where … frees the local before it
         assigns ! (of-opd ! (load ! (from ! (hop ! (look ! 9 refl) (stop !))) (look-raw ! 0 refl))) (from ! (stop !))
-        (init ! 7 refl (typed 𝓤 H A W g (mach g) is)) $
+        (init ! 7 refl (typed 𝓤 H A W aimed (mach aimed) is)) $
         -- the scan
         move ! (25 ∷ 26 ∷ 1 ∷ []) $ use3 W (raw (Scan 𝓤 H A at-mem run .pre to-scan)) (asks laid below) $
         calls-at ! fm (Scan 𝓤 H A at-mem run) known to-scan
         (and-then ! (held ! 21 refl) (and-then ! (held ! 19 refl) (and-then ! (held ! 17 refl) (and-then ! (held ! 15 refl)
         (and-then ! (held ! 13 refl) (and-then ! (held ! 11 refl) (and-then ! (held ! 7 refl) (no-more !)))))))) (λ v.
         use1 W (later (some (λ (r : Target). (Two 𝓤 H A p ⊛ ‵ (Own r v)) ⊛ raw (Ensured r)))) (id⊢ 𝓤 _) $ await ! tt $ pick ! (λ r.
-        split ! $ move ! (1 ∷ []) $ use1 W (raw (fact 𝓤 (r ≡ found p g))) (told r) $
-        heard ! (r ≡ found p g) (λ e. split ! $ move ! (1 ∷ []) $
+        split ! $ move ! (1 ∷ []) $ use1 W (raw (fact 𝓤 (r ≡ found p aimed))) (told r) $
+        heard ! (r ≡ found p aimed) (λ e. split ! $ move ! (1 ∷ []) $
         -- [what the result owns; the two tokens; the record's cell; the open borrow; obs; auth; _9; …]
         peeks ! Row (Is Row) (shows 𝓤 H A Row) r (v ∷ []) (λ is′. land ! (from ! (stop !)) (init ! 6 refl (typed 𝓤 H A W r v is′)) $
         -- the result is stored where the record stands, and the borrow is closed at it
