@@ -22,23 +22,23 @@ use Rattle.model.specs.Answer.{mayWalk, momentOf}
 use Rattle.model.specs.Left.{placed}
 use Rattle.raptor_query.specs.Areas.{areaPart}
 
-pub unsaid : {w : Walks} → w ≡ Unsaid → true ≡ mayWalk w
+pub unsaid : {walks : Walks} → walks ≡ Unsaid → true ≡ mayWalk walks
 unfolding mayWalk
 unsaid e = rw e
 
-pub allowed : {w : Walks} → w ≡ Allowed → true ≡ mayWalk w
+pub allowed : {walks : Walks} → walks ≡ Allowed → true ≡ mayWalk walks
 unfolding mayWalk
 allowed e = rw e
 
-pub barred : {w : Walks} → w ≡ Barred → false ≡ mayWalk w
+pub barred : {walks : Walks} → walks ≡ Barred → false ≡ mayWalk walks
 unfolding mayWalk
 barred e = rw e
 
-pub departs : {t : TimeConstraint} {m : Time} → t ≡ Departure m → m .0 ≡ momentOf t
+pub departs : {time : TimeConstraint} {t : Time} → time ≡ Departure t → t .0 ≡ momentOf time
 unfolding momentOf
 departs e = rw e
 
-pub arrives : {t : TimeConstraint} {m : Time} → t ≡ Arrival m → m .0 ≡ momentOf t
+pub arrives : {time : TimeConstraint} {t : Time} → time ≡ Arrival t → t .0 ≡ momentOf time
 unfolding momentOf
 arrives e = rw e
 
@@ -51,11 +51,11 @@ pub is-there : {b : Bool} (n : Net) (l : Location) → b ≡ exists n l → b �
 is-there n l e f = sym e ∙ f
 
 module _ (n : Net) {l : Location} where
-  pub stop-exists : {s k : ℕ} → l ≡ Stop s → k ≡ n .stops → ltb s k ≡ exists n l
+  pub stop-exists : {s stops : ℕ} → l ≡ Stop s → stops ≡ n .stops → ltb s stops ≡ exists n l
   unfolding exists
   stop-exists e f = rw (e, f)
 
-  pub area-exists : {a k : ℕ} → l ≡ Area a → k ≡ n .areas → ltb a k ≡ exists n l
+  pub area-exists : {a areas : ℕ} → l ≡ Area a → areas ≡ n .areas → ltb a areas ≡ exists n l
   unfolding exists
   area-exists e f = rw (e, f)
 
@@ -94,31 +94,31 @@ module _ (n : Net) {l : Location} where
 
 -- ---- the two halves of the places
 
-module _ (k : ℕ) (l : List ℕ) (long : length l ≡ k + k) where
-  pub half-length : k ≡ length (take k l)
-  half-length = sym (length-take-le k l (omega arith))
+module _ (half : ℕ) (l : List ℕ) (long : length l ≡ half + half) where
+  pub half-length : half ≡ length (take half l)
+  half-length = sym (length-take-le half l (omega arith))
 
-  pub first-half : {s : ℕ} → k ≡ s → length (take k l) ≡ s
+  pub first-half : {stops : ℕ} → half ≡ stops → length (take half l) ≡ stops
   first-half e = sym half-length ∙ e
 
-  module _ (y : List ℕ) (lent : length y ≡ length (take k l)) where
-    e : length y ≡ k
+  module _ (y : List ℕ) (lent : length y ≡ length (take half l)) where
+    e : length y ≡ half
     e = lent ∙ sym half-length
 
-    whole : length (y ++ drop k l) ≡ k + k
-    whole = omega (arith, e, length-append y (drop k l), length-drop k l)
+    whole : length (y ++ drop half l) ≡ half + half
+    whole = omega (arith, e, length-append y (drop half l), length-drop half l)
 
-    pub second-half : {s : ℕ} → k ≡ s → length (midOf k (length (y ++ drop k l) - k) (y ++ drop k l)) ≡ s
+    pub second-half : {stops : ℕ} → half ≡ stops → length (midOf half (length (y ++ drop half l) - half) (y ++ drop half l)) ≡ stops
     second-half f =
-        mid-len k (length (y ++ drop k l)) (y ++ drop k l) (omega arith) ∙ (let g : length (y ++ drop k l) - k ≡ k = omega (arith, whole) in g) ∙ f
+        mid-len half (length (y ++ drop half l)) (y ++ drop half l) (omega arith) ∙ (let g : length (y ++ drop half l) - half ≡ half = omega (arith, whole) in g) ∙ f
 
     -- the second half behind the first
-    pub halves : {z a b : List ℕ} → y ≡ a → z ≡ b → putMid k (length (y ++ drop k l) - k) (y ++ drop k l) z ≡ a ++ b
+    pub halves : {z a b : List ℕ} → y ≡ a → z ≡ b → putMid half (length (y ++ drop half l) - half) (y ++ drop half l) z ≡ a ++ b
     halves {z} {a} {b} f g =
-        let w = y ++ drop k l in
-        let past : length w ≤ k + (length w - k) = omega arith in
-        ap (λ (x : List ℕ). take k w ++ (z ++ x)) (drop-drop (length w - k) k w ∙ drop-of-length-le w past)
-        ∙ ap (λ (x : List ℕ). take k w ++ x) (append-nil z)
-        ∙ ap (λ (x : List ℕ). x ++ z) (take-at y (drop k l) k e)
+        let xs = y ++ drop half l in
+        let past : length xs ≤ half + (length xs - half) = omega arith in
+        ap (λ (x : List ℕ). take half xs ++ (z ++ x)) (drop-drop (length xs - half) half xs ∙ drop-of-length-le xs past)
+        ∙ ap (λ (x : List ℕ). take half xs ++ x) (append-nil z)
+        ∙ ap (λ (x : List ℕ). x ++ z) (take-at y (drop half l) half e)
         ∙ ap (λ (x : List ℕ). x ++ z) f
         ∙ ap (λ (x : List ℕ). a ++ x) g

@@ -42,30 +42,30 @@ fn is_barren(tables: &[u32], l: Location) -> bool
 }
 
 // The query moment.
-pub fn moment_of(t: TimeConstraint) -> Time
-    ensures { λ r. ⌜ r .0 ≡ momentOf t ⌝ }
+pub fn moment_of(time: TimeConstraint) -> Time
+    ensures { λ r. ⌜ r .0 ≡ momentOf time ⌝ }
 {
-    match t {
-        TimeConstraint::Departure(m) => m,
-        TimeConstraint::Arrival(m) => m,
+    match time {
+        TimeConstraint::Departure(t) => t,
+        TimeConstraint::Arrival(t) => t,
     }
 }
 
 // The direction in which a query is searched.
-pub fn direction_of(t: TimeConstraint) -> Direction
-    ensures { λ d. ⌜ d ≡ directionOf t ⌝ }
+pub fn direction_of(time: TimeConstraint) -> Direction
+    ensures { λ d. ⌜ d ≡ directionOf time ⌝ }
 {
-    match t {
+    match time {
         TimeConstraint::Departure(_) => Direction::Departure,
         TimeConstraint::Arrival(_) => Direction::Arrival,
     }
 }
 
 // Walking is allowed where a query does not say.
-pub fn may_walk(w: Walks) -> bool
-    ensures { λ b. ⌜ b ≡ mayWalk w ⌝ }
+pub fn may_walk(walks: Walks) -> bool
+    ensures { λ b. ⌜ b ≡ mayWalk walks ⌝ }
 {
-    match w {
+    match walks {
         Walks::Unsaid => true,
         Walks::Allowed => true,
         Walks::Barred => false,
@@ -82,9 +82,9 @@ pub fn refusal(tables: &[u32], q: Query) -> u32
     let time = q.time;
     if exists(tables, from) {
         if exists(tables, to) {
-            let m = moment_of(time).0;
-            if 1 <= m {
-                if m <= 1_000_000 {
+            let t = moment_of(time).0;
+            if 1 <= t {
+                if t <= repository::limits::LAST_MOMENT {
                     if is_barren(tables, from) {
                         return 9;
                     }
@@ -127,20 +127,20 @@ pub struct Sizes {
 pub fn write_places(
     tables: &[u32],
     places: &mut [u32],
-    n: u32,
+    stops: u32,
     from: Location,
     to: Location,
 ) -> Sizes
     requires { ⌜ Accepted (now tables) ⌝ }
-    requires { ⌜ n ≡ netOf (now tables) .stops ⌝ }
+    requires { ⌜ stops ≡ netOf (now tables) .stops ⌝ }
     requires { ⌜ existing (netOf (now tables)) from ≡ true ⌝ }
     requires { ⌜ existing (netOf (now tables)) to ≡ true ⌝ }
-    requires { ⌜ length (now places) ≡ n + n ⌝ }
+    requires { ⌜ length (now places) ≡ stops + stops ⌝ }
     ensures { λ _. ⌜ now (places .exit) ≡ placed (netOf (now (tables .entry))) from ++ placed (netOf (now (tables .entry))) to ⌝ }
     ensures { λ k. ⌜ k .origins ≡ length (areaPart (netOf (now (tables .entry))) from) ⌝ }
     ensures { λ k. ⌜ k .goals ≡ length (areaPart (netOf (now (tables .entry))) to) ⌝ }
 {
-    let half = n as usize;
+    let half = stops as usize;
     let a = write_place(tables, &mut places[..half], from);
     let b = write_place(tables, &mut places[half..], to);
     Sizes {

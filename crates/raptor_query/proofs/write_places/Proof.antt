@@ -34,7 +34,7 @@ write-place-requires-2 c κs =
       search needs,
       (
         start .pre .1 .1 .1 .0,
-        second-half (start .args .n) (start .args .places .now) (start .pre .1 .1 .1 .1) (first .last .1 .0) (search needs) (start .pre .1 .0),
+        second-half (start .args .stops) (start .args .places .now) (start .pre .1 .1 .1 .1) (first .last .1 .0) (search needs) (start .pre .1 .0),
       ),
     )
 
@@ -45,7 +45,7 @@ returns : tie.Need-returns
 returns c =
     let start = c .before .before .before .before .before .before .before .before .before .before in
     let first = c .before .before .before .before .before .before .write-place in (
-      halves (start .args .n) (start .args .places .now) (start .pre .1 .1 .1 .1) (first .last .1 .0) (search needs) (first .ensures .0)
+      halves (start .args .stops) (start .args .places .now) (start .pre .1 .1 .1 .1) (first .last .1 .0) (search needs) (first .ensures .0)
           (c .before .before .write-place2 .ensures .0),
       (search needs, search needs),
     )
