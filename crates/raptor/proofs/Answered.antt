@@ -19,63 +19,63 @@ use Rattle.raptor.specs.Lent.{Lent}
 use Rattle.raptor.specs.Solved.{roomFor, sized, Ended, WorkspaceLeft, Solved}
 use Rattle.raptor.specs.Searching.{Ran}
 
-module _ (t : List ℕ) (q : Query) (before : Lent) where
+module _ (w : List ℕ) (q : Query) (before : Lent) where
   number : ℕ
-  number = lowest (checkOf t) (sized (netOf t) before) (netOf t) q
+  number = lowest (checkOf w) (sized (netOf w) before) (netOf w) q
 
   -- a refusal leaves everything as it was
-  untouched : (k : ℕ) → (k ≡ 0 → ⊥) → k ≡ lowest (checkOf t) (sized (netOf t) before) (netOf t) q → Solved t q before (Refused k) before
+  untouched : (k : ℕ) → (k ≡ 0 → ⊥) → k ≡ lowest (checkOf w) (sized (netOf w) before) (netOf w) q → Solved w q before (Refused k) before
   unfolding answer unless journeyLeft written
   untouched zero h e = absurd (h refl)
   untouched (suc k) h e = record {
     answers = answers;
-    journey = ap (λ (a : Answer). written a (legsOf (netOf t) q) (before .journey)) answers;
+    journey = ap (λ (a : Answer). written a (legsOf (netOf w) q) (before .journey)) answers;
     workspace = record { untouched = λ z. (refl, refl, refl); ended = λ z. absurd (omega arith) };
   }
     where
-      answers : Refused (suc k) ≡ answer (checkOf t) (sized (netOf t) before) (netOf t) q (length (before .journey))
-      answers = ap (unless Refused (reply (length (before .journey)) ((searched (netOf t) q) .times .target) (legsOf (netOf t) q))) e
+      answers : Refused (suc k) ≡ answer (checkOf w) (sized (netOf w) before) (netOf w) q (length (before .journey))
+      answers = ap (unless Refused (reply (length (before .journey)) ((searched (netOf w) q) .times .target) (legsOf (netOf w) q))) e
 
   -- 1 to 5
-  pub by-tables : {c : ℕ} → c ≡ checkOf t → (c ≡ 0 → ⊥) → Solved t q before (Refused c) before
+  pub by-tables : {c : ℕ} → c ≡ checkOf w → (c ≡ 0 → ⊥) → Solved w q before (Refused c) before
   unfolding lowest
   by-tables {c} e h = untouched c h (rw (← e) (by c h))
     where
-      by : (k : ℕ) → (k ≡ 0 → ⊥) → k ≡ lowest k (sized (netOf t) before) (netOf t) q
+      by : (k : ℕ) → (k ≡ 0 → ⊥) → k ≡ lowest k (sized (netOf w) before) (netOf w) q
       by zero h = absurd (h refl)
       by (suc k) h = refl
 
-  module _ {n m : ℕ} {b : Bool} (h : Accepted t) (en : n ≡ netOf t .stops) (em : m ≡ netOf t .routes)
-      (eb : b ≡ roomFor n m (length (before .words)) (length (before .marks)) (length (before .places))) where
-    sound : checkOf t ≡ 0
-    sound = accepted-is t .1 h
+  module _ {stops routes : ℕ} {b : Bool} (h : Accepted w) (e-stops : stops ≡ netOf w .stops) (e-routes : routes ≡ netOf w .routes)
+      (eb : b ≡ roomFor stops routes (length (before .words)) (length (before .marks)) (length (before .places))) where
+    sound : checkOf w ≡ 0
+    sound = accepted-is w .1 h
 
-    room : sized (netOf t) before ≡ b
+    room : sized (netOf w) before ≡ b
     unfolding sized
-    room = rw (← en, ← em) (sym eb)
+    room = rw (← e-stops, ← e-routes) (sym eb)
 
     -- 6
-    pub by-room : b ≡ false → Solved t q before (Refused 6) before
+    pub by-room : b ≡ false → Solved w q before (Refused 6) before
     by-room f = untouched 6 (λ z. omega arith) (unfold lowest in rw (sound, room, f))
 
     -- 7, 8, 9
-    pub by-query : {k : ℕ} → b ≡ true → k ≡ refusal (netOf t) q → (k ≡ 0 → ⊥) → Solved t q before (Refused k) before
+    pub by-query : {k : ℕ} → b ≡ true → k ≡ refusal (netOf w) q → (k ≡ 0 → ⊥) → Solved w q before (Refused k) before
     by-query {k} f e g = untouched k g (unfold lowest in rw (sound, room, f) e)
 
     -- 0, 10, 12
-    pub by-search : {k : ℕ} {r : Answer} {after : Lent} → b ≡ true → k ≡ refusal (netOf t) q → k ≡ 0
-        → Ran (netOf t) q (before .journey) r after → Solved t q before r after
+    pub by-search : {k : ℕ} {r : Answer} {after : Lent} → b ≡ true → k ≡ refusal (netOf w) q → k ≡ 0
+        → Ran (netOf w) q (before .journey) r after → Solved w q before r after
     unfolding lowest answer unless journeyLeft
     by-search {k} {r} f e z x = record {
       answers = answers;
-      journey = x .journey ∙ ap (λ (a : Answer). written a (legsOf (netOf t) q) (before .journey)) answers;
+      journey = x .journey ∙ ap (λ (a : Answer). written a (legsOf (netOf w) q) (before .journey)) answers;
       workspace = record { untouched = λ u. absurd (omega (arith, none)); ended = λ u. x .ended };
     }
       where
-        none : lowest (checkOf t) (sized (netOf t) before) (netOf t) q ≡ 0
+        none : lowest (checkOf w) (sized (netOf w) before) (netOf w) q ≡ 0
         none = rw (sound, room, f) (sym e ∙ z)
 
-        answers : r ≡ answer (checkOf t) (sized (netOf t) before) (netOf t) q (length (before .journey))
+        answers : r ≡ answer (checkOf w) (sized (netOf w) before) (netOf w) q (length (before .journey))
         answers =
             x .answers
-            ∙ ap (unless Refused (reply (length (before .journey)) ((searched (netOf t) q) .times .target) (legsOf (netOf t) q))) (sym none)
+            ∙ ap (unless Refused (reply (length (before .journey)) ((searched (netOf w) q) .times .target) (legsOf (netOf w) q))) (sym none)

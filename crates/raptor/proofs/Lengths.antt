@@ -23,56 +23,56 @@ use Rattle.raptor.specs.Rooms.{roomBy, roomOf}
 
 -- ---- the tables
 
-module _ (t : List ℕ) {c : ℕ} (e : c ≡ checkOf t) where
-  pub zero-accepted : c ≡ 0 → Accepted t
-  zero-accepted z = accepted-is t .0 (sym e ∙ z)
+module _ (w : List ℕ) {c : ℕ} (e : c ≡ checkOf w) where
+  pub zero-accepted : c ≡ 0 → Accepted w
+  zero-accepted z = accepted-is w .0 (sym e ∙ z)
 
-  pub zero-laid : c ≡ 0 → Laid t
+  pub zero-laid : c ≡ 0 → Laid w
   zero-laid z = zero-accepted z .laid
 
-  pub lengths-told : {n m a b : ℕ} → c ≡ 0 → n ≡ netOf t .stops → m ≡ netOf t .routes → a ≡ wordsRoom n m → b ≡ marksRoom n m
-      → Lengths a b (n + n) ≡ roomOf t
+  pub lengths-told : {stops routes a b : ℕ} → c ≡ 0 → stops ≡ netOf w .stops → routes ≡ netOf w .routes → a ≡ wordsRoom stops routes → b ≡ marksRoom stops routes
+      → Lengths a b (stops + stops) ≡ roomOf w
   unfolding roomOf roomBy
-  lengths-told {n} {m} z f g u v = rw (← e, z, ← f, ← g, u, v)
+  lengths-told {stops} {routes} z f g u v = rw (← e, z, ← f, ← g, u, v)
 
-  pub number-told : (c ≡ 0 → ⊥) → Refused c ≡ roomOf t
+  pub number-told : (c ≡ 0 → ⊥) → Refused c ≡ roomOf w
   unfolding roomOf roomBy
   number-told h = rw (← e) (by c h)
     where
-      by : (k : ℕ) → (k ≡ 0 → ⊥) → Refused k ≡ roomBy (netOf t) k
+      by : (k : ℕ) → (k ≡ 0 → ⊥) → Refused k ≡ roomBy (netOf w) k
       by zero h = absurd (h refl)
       by (suc k) h = refl
 
 -- ---- the slices
 
-module _ (s r : ℕ) {a w : ℕ} (y p : ℕ) (ea : a ≡ wordsRoom s r) where
-  pub wrong-words : (w ≡ a → ⊥) → false ≡ roomFor s r w y p
+module _ (stops routes : ℕ) {a words : ℕ} (marks places : ℕ) (ea : a ≡ wordsRoom stops routes) where
+  pub wrong-words : (words ≡ a → ⊥) → false ≡ roomFor stops routes words marks places
   unfolding roomFor
-  wrong-words h = rw (ne-eqb w (wordsRoom s r) (λ e. h (e ∙ sym ea)))
+  wrong-words h = rw (ne-eqb words (wordsRoom stops routes) (λ e. h (e ∙ sym ea)))
 
-  module _ {b : ℕ} (ew : w ≡ a) (eb : b ≡ marksRoom s r) where
-    pub wrong-marks : (y ≡ b → ⊥) → false ≡ roomFor s r w y p
+  module _ {b : ℕ} (e-words : words ≡ a) (eb : b ≡ marksRoom stops routes) where
+    pub wrong-marks : (marks ≡ b → ⊥) → false ≡ roomFor stops routes words marks places
     unfolding roomFor
-    wrong-marks h = rw (eq-eqb w (wordsRoom s r) (ew ∙ ea), ne-eqb y (marksRoom s r) (λ e. h (e ∙ sym eb)))
+    wrong-marks h = rw (eq-eqb words (wordsRoom stops routes) (e-words ∙ ea), ne-eqb marks (marksRoom stops routes) (λ e. h (e ∙ sym eb)))
 
-    pub by-places : y ≡ b → eqb p (s + s) ≡ roomFor s r w y p
+    pub by-places : marks ≡ b → eqb places (stops + stops) ≡ roomFor stops routes words marks places
     unfolding roomFor
-    by-places h = rw (eq-eqb w (wordsRoom s r) (ew ∙ ea), eq-eqb y (marksRoom s r) (h ∙ eb))
+    by-places h = rw (eq-eqb words (wordsRoom stops routes) (e-words ∙ ea), eq-eqb marks (marksRoom stops routes) (h ∙ eb))
 
-module _ (n m : ℕ) (w y p : List ℕ) {b : Bool} (e : b ≡ roomFor n m (length w) (length y) (length p)) (f : b ≡ true) where
-  all : eqb (length w) (wordsRoom n m) && eqb (length y) (marksRoom n m) && eqb (length p) (n + n) ≡ true
+module _ (stops routes : ℕ) (ws ms ps : List ℕ) {b : Bool} (e : b ≡ roomFor stops routes (length ws) (length ms) (length ps)) (f : b ≡ true) where
+  all : eqb (length ws) (wordsRoom stops routes) && eqb (length ms) (marksRoom stops routes) && eqb (length ps) (stops + stops) ≡ true
   unfolding roomFor
   all = sym e ∙ f
 
-  pub room-places : length p ≡ n + n
+  pub room-places : length ps ≡ stops + stops
   room-places =
-      eqb-true (length p) (n + n)
-      (and-right (eqb (length w) (wordsRoom n m) && eqb (length y) (marksRoom n m)) (eqb (length p) (n + n)) all)
+      eqb-true (length ps) (stops + stops)
+      (and-right (eqb (length ws) (wordsRoom stops routes) && eqb (length ms) (marksRoom stops routes)) (eqb (length ps) (stops + stops)) all)
 
-  pub room-sized : {t : List ℕ} → Accepted t → n ≡ netOf t .stops → m ≡ netOf t .routes → Sized n m w y
-  room-sized h en em =
-      let a = eqb (length w) (wordsRoom n m) in
-      let b = eqb (length y) (marksRoom n m) in
-      let ab = and-left (a && b) (eqb (length p) (n + n)) all in
-      sized-of (rw en (stops-few (h .laid))) (rw em (routes-few (h .laid))) (eqb-true (length w) (wordsRoom n m) (and-left a b ab))
-      (eqb-true (length y) (marksRoom n m) (and-right a b ab))
+  pub room-sized : {w : List ℕ} → Accepted w → stops ≡ netOf w .stops → routes ≡ netOf w .routes → Sized stops routes ws ms
+  room-sized h e-stops e-routes =
+      let a = eqb (length ws) (wordsRoom stops routes) in
+      let b = eqb (length ms) (marksRoom stops routes) in
+      let ab = and-left (a && b) (eqb (length ps) (stops + stops)) all in
+      sized-of (rw e-stops (stops-few (h .laid))) (rw e-routes (routes-few (h .laid))) (eqb-true (length ws) (wordsRoom stops routes) (and-left a b ab))
+      (eqb-true (length ms) (marksRoom stops routes) (and-right a b ab))

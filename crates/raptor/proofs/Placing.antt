@@ -32,8 +32,8 @@ use Rattle.base.specs.Below.{Below}
 use Rattle.raptor.proofs.Searched.{posed-accepted, posed-stops}
 use Rattle.raptor.specs.Searching.{askOf, Posed, Place, Written}
 
-pub part-length : (n i : ℕ) (l : List ℕ) → i ≤ n → length l ≡ n + n → i ≡ length (take i l)
-part-length n i l h e = sym (length-take-le i l (omega arith))
+pub part-length : (stops i : ℕ) (l : List ℕ) → i ≤ stops → length l ≡ stops + stops → i ≡ length (take i l)
+part-length stops i l h e = sym (length-take-le i l (omega arith))
 
 -- ---- the stops of a place are known
 
@@ -42,7 +42,7 @@ at-place [] i h = absurd (omega arith)
 at-place (x ∷ l) zero h = List·Memᴰ·head refl
 at-place (x ∷ l) (suc i) h = List·Memᴰ·tail (at-place l i (omega arith))
 
-all-below : {s : ℕ} (l : List ℕ) → ((x : ℕ) → List·Memᴰ x l → x < s) → Below s l
+all-below : {stops : ℕ} (l : List ℕ) → ((x : ℕ) → List·Memᴰ x l → x < stops) → Below stops l
 all-below l h = record { below = λ i lt. h (getD l i 0) (at-place l i lt) }
 
 module _ (n : Net) (mode : Mode) (walks : Bool) (from to : List ℕ) where
@@ -63,90 +63,90 @@ unfolding placed areaPart
 placed-is n (Stop s) = let e : n .stops ≡ n .stops - 0 = omega arith in ap (λ (k : ℕ). replicate k 0) e
 placed-is n (Area a) = refl
 
-fits : {t : List ℕ} → Accepted t → (l : Location) → exists (netOf t) l ≡ true → length (areaPart (netOf t) l) ≤ netOf t .stops
+fits : {w : List ℕ} → Accepted w → (l : Location) → exists (netOf w) l ≡ true → length (areaPart (netOf w) l) ≤ netOf w .stops
 unfolding areaPart
 fits h (Stop s) e = omega arith
-fits {t} h (Area a) e = area-fits h (area-there (netOf t) {l = Area a} refl e)
+fits {w} h (Area a) e = area-fits h (area-there (netOf w) {l = Area a} refl e)
 
-pub placed-long : {t : List ℕ} → Accepted t → (l : Location) → exists (netOf t) l ≡ true → length (placed (netOf t) l) ≡ netOf t .stops
-placed-long {t} h l e =
-    let n = netOf t in
+pub placed-long : {w : List ℕ} → Accepted w → (l : Location) → exists (netOf w) l ≡ true → length (placed (netOf w) l) ≡ netOf w .stops
+placed-long {w} h l e =
+    let n = netOf w in
     let z = replicate {A = ℕ} (n .stops - length (areaPart n l)) 0 in
     ap (λ (x : List ℕ). length x) (placed-is n l)
     ∙ omega (arith, fits h l e, length-append (areaPart n l) z, length-replicate {A = ℕ} (n .stops - length (areaPart n l)) 0)
 
-module _ {t : List ℕ} {q : Query} {ask : Ask} (y : Posed t q ask) where
-  abbrev s : ℕ
-  s = ask .stops
+module _ {w : List ℕ} {q : Query} {ask : Ask} (posed : Posed w q ask) where
+  abbrev stops : ℕ
+  stops = ask .stops
 
-  z : refusal (netOf t) q ≡ 0
-  z = y .unrefused
+  z : refusal (netOf w) q ≡ 0
+  z = posed .unrefused
 
-  p : Passed (netOf t) q
-  p = passed (netOf t) q z
+  p : Passed (netOf w) q
+  p = passed (netOf w) q z
 
-  a : Asked (netOf t) (taskOf (netOf t) q)
-  a = asked (netOf t) (accepted-sound-places (posed-accepted y)) q z
+  a : Asked (netOf w) (taskOf (netOf w) q)
+  a = asked (netOf w) (accepted-sound-places (posed-accepted posed)) q z
 
-  pub from-there : exists (netOf t) (q .from) ≡ true
+  pub from-there : exists (netOf w) (q .from) ≡ true
   from-there = p .from
 
-  pub to-there : exists (netOf t) (q .to) ≡ true
+  pub to-there : exists (netOf w) (q .to) ≡ true
   to-there = p .to
 
   pub asked-moment : 0 < ask .moment .0
   unfolding askOf
-  asked-moment = let h = p .first in let e : ask .moment .0 ≡ momentOf (q .time) = ap (λ (v : Ask). v .moment .0) (y .asks) in omega arith
+  asked-moment = let h = p .first in let e : ask .moment .0 ≡ momentOf (q .time) = ap (λ (v : Ask). v .moment .0) (posed .asks) in omega arith
 
   pub stops-most : ask .stops ≤ MOST-STOPS
-  stops-most = let e = posed-stops y in let h = stops-few ((posed-accepted y) .laid) in omega arith
+  stops-most = let e = posed-stops posed in let h = stops-few ((posed-accepted posed) .laid) in omega arith
 
-  from-below : Below s (placeStops (netOf t) (q .from))
+  from-below : Below stops (placeStops (netOf w) (q .from))
   unfolding taskOf
   from-below =
-      rw (posed-stops y)
-      (all-below (placeStops (netOf t) (q .from)) (from-in (netOf t) (q .mode) (mayWalk (q .walks)) _ _ (q .time) a))
+      rw (posed-stops posed)
+      (all-below (placeStops (netOf w) (q .from)) (from-in (netOf w) (q .mode) (mayWalk (q .walks)) _ _ (q .time) a))
 
-  to-below : Below s (placeStops (netOf t) (q .to))
+  to-below : Below stops (placeStops (netOf w) (q .to))
   unfolding taskOf
   to-below =
-      rw (posed-stops y)
-      (all-below (placeStops (netOf t) (q .to)) (to-in (netOf t) (q .mode) (mayWalk (q .walks)) _ _ (q .time) a))
+      rw (posed-stops posed)
+      (all-below (placeStops (netOf w) (q .to)) (to-in (netOf w) (q .mode) (mayWalk (q .walks)) _ _ (q .time) a))
 
   -- how many stops each half holds, and how many places there are
-  pub from-fits : {i : ℕ} → i ≡ length (areaPart (netOf t) (q .from)) → i ≤ ask .stops
-  from-fits e = let u = fits (posed-accepted y) (q .from) from-there in let f = posed-stops y in omega arith
+  pub from-fits : {i : ℕ} → i ≡ length (areaPart (netOf w) (q .from)) → i ≤ ask .stops
+  from-fits e = let u = fits (posed-accepted posed) (q .from) from-there in let f = posed-stops posed in omega arith
 
-  pub to-fits : {k : ℕ} → k ≡ length (areaPart (netOf t) (q .to)) → k ≤ ask .stops
-  to-fits e = let u = fits (posed-accepted y) (q .to) to-there in let f = posed-stops y in omega arith
+  pub to-fits : {k : ℕ} → k ≡ length (areaPart (netOf w) (q .to)) → k ≤ ask .stops
+  to-fits e = let u = fits (posed-accepted posed) (q .to) to-there in let f = posed-stops posed in omega arith
 
-  module _ {places : List ℕ} {i k : ℕ} (w : Written (netOf t) q places i k) where
-    pub place-from : Place (netOf t) (ask .stops) (q .from) (take i places)
+  module _ {places : List ℕ} {i k : ℕ} (x : Written (netOf w) q places i k) where
+    pub place-from : Place (netOf w) (ask .stops) (q .from) (take i places)
     place-from = record {
       there = from-there;
       below = from-below;
       stands =
-          rw (w .places, placed-is (netOf t) (q .from))
+          rw (x .places, placed-is (netOf w) (q .from))
           (ap (take i)
-          (append-assoc (areaPart (netOf t) (q .from)) (replicate (netOf t .stops - length (areaPart (netOf t) (q .from))) 0)
-          (placed (netOf t) (q .to)))
-          ∙ take-at (areaPart (netOf t) (q .from)) _ i (sym (w .from-size)));
+          (append-assoc (areaPart (netOf w) (q .from)) (replicate (netOf w .stops - length (areaPart (netOf w) (q .from))) 0)
+          (placed (netOf w) (q .to)))
+          ∙ take-at (areaPart (netOf w) (q .from)) _ i (sym (x .from-size)));
     }
 
-    pub place-to : Place (netOf t) (ask .stops) (q .to) (take (ask .stops + k - ask .stops) (drop (ask .stops) places))
+    pub place-to : Place (netOf w) (ask .stops) (q .to) (take (ask .stops + k - ask .stops) (drop (ask .stops) places))
     place-to = record {
       there = to-there;
       below = to-below;
       stands =
-          let e : s + k - s ≡ k = omega arith in
-          let f : drop s places ≡ placed (netOf t) (q .to) =
-          ap (drop s) (w .places)
-          ∙ drop-at (placed (netOf t) (q .from)) (placed (netOf t) (q .to)) s
-          (placed-long (posed-accepted y) (q .from) from-there ∙ sym (posed-stops y)) in
-          ap (λ (l : ℕ). take l (drop s places)) e ∙ ap (take k) (f ∙ placed-is (netOf t) (q .to))
-          ∙ take-at (areaPart (netOf t) (q .to)) _ k (sym (w .to-size));
+          let e : stops + k - stops ≡ k = omega arith in
+          let f : drop stops places ≡ placed (netOf w) (q .to) =
+          ap (drop stops) (x .places)
+          ∙ drop-at (placed (netOf w) (q .from)) (placed (netOf w) (q .to)) stops
+          (placed-long (posed-accepted posed) (q .from) from-there ∙ sym (posed-stops posed)) in
+          ap (λ (l : ℕ). take l (drop stops places)) e ∙ ap (take k) (f ∙ placed-is (netOf w) (q .to))
+          ∙ take-at (areaPart (netOf w) (q .to)) _ k (sym (x .to-size));
     }
 
-  pub places-written : {places : List ℕ} {i k : ℕ} → places ≡ placed (netOf t) (q .from) ++ placed (netOf t) (q .to)
-      → i ≡ length (areaPart (netOf t) (q .from)) → k ≡ length (areaPart (netOf t) (q .to)) → Written (netOf t) q places i k
-  places-written u v w = record { places = u; from-size = v; to-size = w }
+  pub places-written : {places : List ℕ} {i k : ℕ} → places ≡ placed (netOf w) (q .from) ++ placed (netOf w) (q .to)
+      → i ≡ length (areaPart (netOf w) (q .from)) → k ≡ length (areaPart (netOf w) (q .to)) → Written (netOf w) q places i k
+  places-written u v x = record { places = u; from-size = v; to-size = x }

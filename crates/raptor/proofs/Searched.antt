@@ -29,7 +29,7 @@ use Rattle.raptor_rounds.specs.declared.Ask.{Ask}
 use Rattle.base.specs.Below.{Below}
 use Rattle.raptor.specs.Searching.{askOf, Posed, Place}
 
-module _ {n : Net} {k : ℕ} {l : Location} {area : List ℕ} (p : Place n k l area) where
+module _ {n : Net} {stops : ℕ} {l : Location} {area : List ℕ} (p : Place n stops l area) where
   pub stop-known : {s : ℕ} → l ≡ Stop s → s < n .stops
   stop-known e = stop-there n e (p .there)
 
@@ -42,22 +42,22 @@ module _ {n : Net} {k : ℕ} {l : Location} {area : List ℕ} (p : Place n k l a
   unfolding areaPart placeStops
   area-is e = rw e (rw e at (p .stands))
 
-  pub place-below : {ss : List ℕ} → ss ≡ placeStops n l → Below k ss
-  place-below f = subst (Below k) (sym f) (p .below)
+  pub place-below : {ss : List ℕ} → ss ≡ placeStops n l → Below stops ss
+  place-below f = subst (Below stops) (sym f) (p .below)
 
 -- ---- a query, as it is asked
 
-pub ask-is : (n : Net) (q : Query) {s r : ℕ} {d : Direction} {w : Bool} {m : Time} → s ≡ n .stops → r ≡ n .routes
-    → d ≡ directionOf (q .time) → w ≡ mayWalk (q .walks) → m .0 ≡ momentOf (q .time)
-    → record { stops = s; routes = r; direction = d; mode = q .mode; walking = w; moment = m } ≡ askOf n q
+pub ask-is : (n : Net) (q : Query) {stops routes : ℕ} {d : Direction} {walking : Bool} {t : Time} → stops ≡ n .stops → routes ≡ n .routes
+    → d ≡ directionOf (q .time) → walking ≡ mayWalk (q .walks) → t .0 ≡ momentOf (q .time)
+    → record { stops = stops; routes = routes; direction = d; mode = q .mode; walking = walking; moment = t } ≡ askOf n q
 unfolding askOf
-ask-is n q es er ed ew em = λ i. record {
+ask-is n q es er ed ew et = λ i. record {
   stops = es i;
   routes = er i;
   direction = ed i;
   mode = q .mode;
   walking = ew i;
-  moment = record { 0 = em i };
+  moment = record { 0 = et i };
 }
 
 module _ (n : Net) (q : Query) {a : Ask} (e : a ≡ askOf n q) where
@@ -69,8 +69,8 @@ module _ (n : Net) (q : Query) {a : Ask} (e : a ≡ askOf n q) where
   unfolding askOf
   ask-routes = ap (λ (x : Ask). x .routes) e
 
-pub posed-of : {t : List ℕ} {q : Query} {a : Ask} {k : ℕ} → Accepted t → a ≡ askOf (netOf t) q → k ≡ refusal (netOf t) q → k ≡ 0
-    → Posed t q a
+pub posed-of : {w : List ℕ} {q : Query} {a : Ask} {k : ℕ} → Accepted w → a ≡ askOf (netOf w) q → k ≡ refusal (netOf w) q → k ≡ 0
+    → Posed w q a
 posed-of h e f z = record {
   known = λ u. h;
   tabled = record { known = λ u. record { searchable = accepted-searchable h; net-stops = ask-stops _ _ e; net-routes = ask-routes _ _ e } };
@@ -78,28 +78,28 @@ posed-of h e f z = record {
   unrefused = sym f ∙ z;
 }
 
-module _ {t : List ℕ} {q : Query} {a : Ask} (p : Posed t q a) where
-  pub posed-accepted : Accepted t
-  posed-accepted = p .known tt
+module _ {w : List ℕ} {q : Query} {a : Ask} (posed : Posed w q a) where
+  pub posed-accepted : Accepted w
+  posed-accepted = posed .known tt
 
-  pub posed-stops : a .stops ≡ netOf t .stops
-  posed-stops = p .tabled .known tt .net-stops
+  pub posed-stops : a .stops ≡ netOf w .stops
+  posed-stops = posed .tabled .known tt .net-stops
 
-  pub posed-routes : a .routes ≡ netOf t .routes
-  posed-routes = p .tabled .known tt .net-routes
+  pub posed-routes : a .routes ≡ netOf w .routes
+  posed-routes = posed .tabled .known tt .net-routes
 
   pub posed-direction : a .direction ≡ directionOf (q .time)
   unfolding askOf
-  posed-direction = ap (λ (x : Ask). x .direction) (p .asks)
+  posed-direction = ap (λ (x : Ask). x .direction) (posed .asks)
 
 -- by its direction
-module _ (mode : Mode) (w : Bool) (ss gs : List ℕ) where
-  departing : (c : TimeConstraint) → directionOf c ≡ Departing → task (directionOf c) mode w ss gs (momentOf c) ≡ taskBy c mode w ss gs
+module _ (mode : Mode) (walking : Bool) (ss gs : List ℕ) where
+  departing : (c : TimeConstraint) → directionOf c ≡ Departing → task (directionOf c) mode walking ss gs (momentOf c) ≡ taskBy c mode walking ss gs
   unfolding momentOf taskBy
   departing (Departure t) e = refl
   departing (Arrival t) e = let z : _≡_ {A = ℕ} 0 1 = cc in absurd (omega arith)
 
-  arriving : (c : TimeConstraint) → directionOf c ≡ Arriving → task (directionOf c) mode w gs ss (momentOf c) ≡ taskBy c mode w ss gs
+  arriving : (c : TimeConstraint) → directionOf c ≡ Arriving → task (directionOf c) mode walking gs ss (momentOf c) ≡ taskBy c mode walking ss gs
   unfolding momentOf taskBy
   arriving (Departure t) e = let z : _≡_ {A = ℕ} 0 1 = cc in absurd (omega arith)
   arriving (Arrival t) e = refl
@@ -107,17 +107,17 @@ module _ (mode : Mode) (w : Bool) (ss gs : List ℕ) where
 abbrev asked-by : List ℕ → List ℕ → Ask → Task
 asked-by ss gs x = task (x .direction) (x .mode) (x .walking) ss gs (x .moment .0)
 
-module _ (t : List ℕ) (q : Query) {a : Ask} (p : Posed t q a) where
-  pub departing-is : {ss gs : List ℕ} {s : State} → a .direction ≡ Departing → ss ≡ placeStops (netOf t) (q .from) → gs ≡ placeStops (netOf t) (q .to)
-      → s ≡ search (netOf t) (task (a .direction) (a .mode) (a .walking) ss gs (a .moment .0)) listed → s ≡ searched (netOf t) q
+module _ (w : List ℕ) (q : Query) {a : Ask} (posed : Posed w q a) where
+  pub departing-is : {ss gs : List ℕ} {s : State} → a .direction ≡ Departing → ss ≡ placeStops (netOf w) (q .from) → gs ≡ placeStops (netOf w) (q .to)
+      → s ≡ search (netOf w) (task (a .direction) (a .mode) (a .walking) ss gs (a .moment .0)) listed → s ≡ searched (netOf w) q
   unfolding searched taskOf askOf
   departing-is {ss} {gs} d f h g =
-      g ∙ ap (λ (x : Task). search (netOf t) x listed)
-      (ap (asked-by ss gs) (p .asks) ∙ rw (f, h) (departing (q .mode) (mayWalk (q .walks)) (placeStops (netOf t) (q .from)) (placeStops (netOf t) (q .to)) (q .time) (sym (posed-direction p) ∙ d)))
+      g ∙ ap (λ (x : Task). search (netOf w) x listed)
+      (ap (asked-by ss gs) (posed .asks) ∙ rw (f, h) (departing (q .mode) (mayWalk (q .walks)) (placeStops (netOf w) (q .from)) (placeStops (netOf w) (q .to)) (q .time) (sym (posed-direction posed) ∙ d)))
 
-  pub arriving-is : {ss gs : List ℕ} {s : State} → a .direction ≡ Arriving → ss ≡ placeStops (netOf t) (q .to) → gs ≡ placeStops (netOf t) (q .from)
-      → s ≡ search (netOf t) (task (a .direction) (a .mode) (a .walking) ss gs (a .moment .0)) listed → s ≡ searched (netOf t) q
+  pub arriving-is : {ss gs : List ℕ} {s : State} → a .direction ≡ Arriving → ss ≡ placeStops (netOf w) (q .to) → gs ≡ placeStops (netOf w) (q .from)
+      → s ≡ search (netOf w) (task (a .direction) (a .mode) (a .walking) ss gs (a .moment .0)) listed → s ≡ searched (netOf w) q
   unfolding searched taskOf askOf
   arriving-is {ss} {gs} d f h g =
-      g ∙ ap (λ (x : Task). search (netOf t) x listed)
-      (ap (asked-by ss gs) (p .asks) ∙ rw (f, h) (arriving (q .mode) (mayWalk (q .walks)) (placeStops (netOf t) (q .from)) (placeStops (netOf t) (q .to)) (q .time) (sym (posed-direction p) ∙ d)))
+      g ∙ ap (λ (x : Task). search (netOf w) x listed)
+      (ap (asked-by ss gs) (posed .asks) ∙ rw (f, h) (arriving (q .mode) (mayWalk (q .walks)) (placeStops (netOf w) (q .from)) (placeStops (netOf w) (q .to)) (q .time) (sym (posed-direction posed) ∙ d)))

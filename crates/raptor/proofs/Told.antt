@@ -15,6 +15,7 @@ use Rattle.model.specs.declared.Query.{Query}
 use Rattle.model.specs.declared.Target.{Target}
 use Rattle.model.specs.declared.TimeConstraint.{TimeConstraint}
 use Rattle.model.specs.declared.TimeConstraint.the-variants.{Departure, Arrival}
+use Rattle.model.specs.Limits.{MOST-ROUNDS}
 use Rattle.model.specs.Tables.{Net}
 use Rattle.model.specs.State.{Task, State}
 use Rattle.model.specs.Work.{Work, workOf, stateOf}
@@ -52,72 +53,72 @@ task-directed : (n : Net) (q : Query) → (taskOf n q) .direction ≡ directionO
 unfolding taskOf
 task-directed n q = directed (q .time) (q .mode) (mayWalk (q .walks)) (placeStops n (q .from)) (placeStops n (q .to))
 
-module _ {t : List ℕ} {q : Query} {ask : Ask} (v : Posed t q ask) (w y : List ℕ) {g : Target}
-    (e : stateOf (view (ask .stops) (ask .routes) w y) g ≡ searched (netOf t) q) where
-  abbrev n : ℕ
-  n = ask .stops
+module _ {w : List ℕ} {q : Query} {ask : Ask} (posed : Posed w q ask) (ws ms : List ℕ) {aimed : Target}
+    (e : stateOf (view (ask .stops) (ask .routes) ws ms) aimed ≡ searched (netOf w) q) where
+  abbrev stops : ℕ
+  stops = ask .stops
 
-  abbrev m : ℕ
-  m = ask .routes
+  abbrev routes : ℕ
+  routes = ask .routes
 
   abbrev d : Direction
   d = ask .direction
 
-  z : refusal (netOf t) q ≡ 0
-  z = v .unrefused
+  z : refusal (netOf w) q ≡ 0
+  z = posed .unrefused
 
   ed : ask .direction ≡ directionOf (q .time)
-  ed = posed-direction v
+  ed = posed-direction posed
 
-  as-net : (P : ℕ → ℕ → Type 0) → P n m → P (netOf t .stops) (netOf t .routes)
-  as-net P u = subst (λ (r : ℕ). P (netOf t .stops) r) (posed-routes v) (subst (λ (s : ℕ). P s m) (posed-stops v) u)
+  as-net : (P : ℕ → ℕ → Type 0) → P stops routes → P (netOf w .stops) (netOf w .routes)
+  as-net P u = subst (λ (i : ℕ). P (netOf w .stops) i) (posed-routes posed) (subst (λ (i : ℕ). P i routes) (posed-stops posed) u)
 
-  found : g ≡ (searched (netOf t) q) .times .target
+  found : aimed ≡ (searched (netOf w) q) .times .target
   found = ap (λ (s : State). s .times .target) e
 
-  parents : parentsOf n m w ≡ (searched (netOf t) q) .parents
+  parents : parentsOf stops routes ws ≡ (searched (netOf w) q) .parents
   unfolding view
   parents = ap (λ (s : State). s .parents) e
 
-  module _ (h : 0 < g .time .0) where
-    back : Reached (netOf t) (taskOf (netOf t) q) 15 ((searched (netOf t) q) .parents) ((searched (netOf t) q) .times .target)
+  module _ (h : 0 < aimed .time .0) where
+    back : Reached (netOf w) (taskOf (netOf w) q) MOST-ROUNDS ((searched (netOf w) q) .parents) ((searched (netOf w) q) .times .target)
     unfolding searched
     back =
-        let places = accepted-sound-places (posed-accepted v) in
-        reached (netOf t) (taskOf (netOf t) q) (accepted-sound (posed-accepted v)) (asked (netOf t) places q z) listed listed-fair (rw found at h)
+        let places = accepted-sound-places (posed-accepted posed) in
+        reached (netOf w) (taskOf (netOf w) q) (accepted-sound (posed-accepted posed)) (asked (netOf w) places q z) listed listed-fair (rw found at h)
 
-    traced : Traced d n (parentsOf n m w) (g .round) (g .stop)
-    traced = rw (parents, found, ed, ← (task-directed (netOf t) q), posed-stops v) (reached-traced (netOf t) (taskOf (netOf t) q) back)
+    traced : Traced d stops (parentsOf stops routes ws) (aimed .round) (aimed .stop)
+    traced = rw (parents, found, ed, ← (task-directed (netOf w) q), posed-stops posed) (reached-traced (netOf w) (taskOf (netOf w) q) back)
 
   -- where a stop is chosen, the parents lead from it to a beginning
-  pub is-chosen : Chosen d n (parentsOf n m w) g
+  pub is-chosen : Chosen d stops (parentsOf stops routes ws) aimed
   is-chosen = record { traced = λ h. traced h; in-rounds = λ h. rw found ((back h) .round) }
 
-  legs-are : legsBack d n (parentsOf n m w) g ≡ legsOf (netOf t) q
+  legs-are : legsBack d stops (parentsOf stops routes ws) aimed ≡ legsOf (netOf w) q
   unfolding legsBack legsOf journey trace
-  legs-are = rw (parents, found, ed, ← (task-directed (netOf t) q), posed-stops v)
+  legs-are = rw (parents, found, ed, ← (task-directed (netOf w) q), posed-stops posed)
 
-  module _ {p : List ℕ} (j′ : List ℕ) (ep : p ≡ placed (netOf t) (q .from) ++ placed (netOf t) (q .to)) (left : Usable n m w y) where
-    long : length (placed (netOf t) (q .from)) ≡ n
-    long = placed-long (posed-accepted v) (q .from) (from-there v) ∙ sym (posed-stops v)
+  module _ {ps : List ℕ} (buffer′ : List ℕ) (ep : ps ≡ placed (netOf w) (q .from) ++ placed (netOf w) (q .to)) (left : Usable stops routes ws ms) where
+    long : length (placed (netOf w) (q .from)) ≡ stops
+    long = placed-long (posed-accepted posed) (q .from) (from-there posed) ∙ sym (posed-stops posed)
 
-    work : view n m w y ≡ workOf (searched (netOf t) q)
+    work : view stops routes ws ms ≡ workOf (searched (netOf w) q)
     work = ap workOf e
 
-    held : holds n m (lent w y p j′) ≡ workspaceOf (netOf t) q (searched (netOf t) q)
+    held : holds stops routes (lent ws ms ps buffer′) ≡ workspaceOf (netOf w) q (searched (netOf w) q)
     unfolding holds workspaceOf
     held =
-        let a : take n p ≡ placed (netOf t) (q .from) = ap (take n) ep ∙ take-at (placed (netOf t) (q .from)) _ n long in
-        let b : drop n p ≡ placed (netOf t) (q .to) = ap (drop n) ep ∙ drop-at (placed (netOf t) (q .from)) _ n long in
+        let a : take stops ps ≡ placed (netOf w) (q .from) = ap (take stops) ep ∙ take-at (placed (netOf w) (q .from)) _ stops long in
+        let b : drop stops ps ≡ placed (netOf w) (q .to) = ap (drop stops) ep ∙ drop-at (placed (netOf w) (q .from)) _ stops long in
         λ i. record { work = work i; origins = a i; goals = b i }
 
-    is-ended : Ended (netOf t) q (lent w y p j′)
+    is-ended : Ended (netOf w) q (lent ws ms ps buffer′)
     is-ended = record {
-      ends = as-net (λ s r. holds s r (lent w y p j′) ≡ workspaceOf (netOf t) q (searched (netOf t) q)) held;
-      fits = as-net (λ s r. Sized s r w y) (left .sized);
-      tidy = as-net (λ s r. Tidy s r w y) (left .tidy);
+      ends = as-net (λ stops routes. holds stops routes (lent ws ms ps buffer′) ≡ workspaceOf (netOf w) q (searched (netOf w) q)) held;
+      fits = as-net (λ stops routes. Sized stops routes ws ms) (left .sized);
+      tidy = as-net (λ stops routes. Tidy stops routes ws ms) (left .tidy);
     }
 
-    pub ran : {r : Answer} {j : List ℕ} → r ≡ reply (length j) g (legsBack d n (parentsOf n m w) g)
-        → j′ ≡ written r (legsBack d n (parentsOf n m w) g) j → Ran (netOf t) q j r (lent w y p j′)
+    pub ran : {r : Answer} {buffer : List ℕ} → r ≡ reply (length buffer) aimed (legsBack d stops (parentsOf stops routes ws) aimed)
+        → buffer′ ≡ written r (legsBack d stops (parentsOf stops routes ws) aimed) buffer → Ran (netOf w) q buffer r (lent ws ms ps buffer′)
     ran a b = record { answers = rw (← found, ← legs-are) a; journey = rw (← legs-are) b; ended = is-ended }

@@ -9,4 +9,4 @@ pub record Lent : Type 0 where
   pub journey : List ℕ
 
 abbrev pub lent : List ℕ → List ℕ → List ℕ → List ℕ → Lent
-lent w y p j = record { words = w; marks = y; places = p; journey = j }
+lent ws ms places journey = record { words = ws; marks = ms; places = places; journey = journey }

@@ -14,4 +14,4 @@ roomBy n zero = Lengths (wordsRoom (n .stops) (n .routes)) (marksRoom (n .stops)
 roomBy n (suc k) = Refused (suc k)
 
 unfoldable pub roomOf : List ℕ → Needed
-roomOf t = roomBy (netOf t) (checkOf t)
+roomOf w = roomBy (netOf w) (checkOf w)

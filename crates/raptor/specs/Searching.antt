@@ -33,26 +33,26 @@ askOf n q = record {
 }
 
 -- a query that accepted tables do not refuse, as it is asked; their many facts stand behind a function
-pub record Posed (t : List ℕ) (q : Query) (a : Ask) : Type 0 where
-  pub known : Unit {0} → Accepted t
-  pub tabled : Tabled t (a .stops) (a .routes)
-  pub asks : a ≡ askOf (netOf t) q
-  pub unrefused : refusal (netOf t) q ≡ 0
+pub record Posed (w : List ℕ) (q : Query) (a : Ask) : Type 0 where
+  pub known : Unit {0} → Accepted w
+  pub tabled : Tabled w (a .stops) (a .routes)
+  pub asks : a ≡ askOf (netOf w) q
+  pub unrefused : refusal (netOf w) q ≡ 0
 
 -- a place that exists, its stops known, and what of it stands in the workspace
-pub record Place (n : Net) (s : ℕ) (l : Location) (area : List ℕ) : Type 0 where
+pub record Place (n : Net) (stops : ℕ) (l : Location) (area : List ℕ) : Type 0 where
   pub there : exists n l ≡ true
-  pub below : Below s (placeStops n l)
+  pub below : Below stops (placeStops n l)
   pub stands : area ≡ areaPart n l
 
 -- the places as `write_places` leaves them, with as many stops in each half as it says
-pub record Written (n : Net) (q : Query) (p : List ℕ) (origins goals : ℕ) : Type 0 where
-  pub places : p ≡ placed n (q .from) ++ placed n (q .to)
+pub record Written (n : Net) (q : Query) (ps : List ℕ) (origins goals : ℕ) : Type 0 where
+  pub places : ps ≡ placed n (q .from) ++ placed n (q .to)
   pub from-size : origins ≡ length (areaPart n (q .from))
   pub to-size : goals ≡ length (areaPart n (q .to))
 
--- what comes of a query that nothing refuses, with the journey buffer j as it is lent
-pub record Ran (n : Net) (q : Query) (j : List ℕ) (r : Answer) (after : Lent) : Type 0 where
-  pub answers : r ≡ reply (length j) ((searched n q) .times .target) (legsOf n q)
-  pub journey : after .journey ≡ written r (legsOf n q) j
+-- what comes of a query that nothing refuses, with the journey buffer as it is lent
+pub record Ran (n : Net) (q : Query) (buffer : List ℕ) (r : Answer) (after : Lent) : Type 0 where
+  pub answers : r ≡ reply (length buffer) ((searched n q) .times .target) (legsOf n q)
+  pub journey : after .journey ≡ written r (legsOf n q) buffer
   pub ended : Ended n q after

@@ -19,18 +19,18 @@ use Rattle.raptor.specs.Lent.{Lent}
 
 -- origins and goals: as many places for each as there are stops
 abbrev pub placesRoom : ℕ → ℕ
-placesRoom s = s + s
+placesRoom stops = stops + stops
 
--- the workspace slices have exactly the lengths that s stops and r routes ask for; else "6 a workspace slice of wrong length"
+-- the workspace slices have exactly the lengths that so many stops and routes ask for; else "6 a workspace slice of wrong length"
 unfoldable pub roomFor : ℕ → ℕ → ℕ → ℕ → ℕ → Bool
-roomFor s r words marks places = eqb words (wordsRoom s r) && eqb marks (marksRoom s r) && eqb places (placesRoom s)
+roomFor stops routes words marks places = eqb words (wordsRoom stops routes) && eqb marks (marksRoom stops routes) && eqb places (placesRoom stops)
 
 unfoldable pub sized : Net → Lent → Bool
 sized n l = roomFor (n .stops) (n .routes) (length (l .words)) (length (l .marks)) (length (l .places))
 
 -- the workspace that the three slices hold
 unfoldable pub holds : ℕ → ℕ → Lent → Workspace
-holds s r l = record { work = view s r (l .words) (l .marks); origins = take s (l .places); goals = drop s (l .places) }
+holds stops routes l = record { work = view stops routes (l .words) (l .marks); origins = take stops (l .places); goals = drop stops (l .places) }
 
 -- "as the search ends", and nothing beside it
 pub record Ended (n : Net) (q : Query) (after : Lent) : Type 0 where
@@ -43,8 +43,8 @@ pub record WorkspaceLeft (n : Net) (q : Query) (number : ℕ) (before after : Le
   pub untouched : 0 < number → (after .words ≡ before .words) × (after .marks ≡ before .marks) × (after .places ≡ before .places)
   pub ended : number ≡ 0 → Ended n q after
 
--- tables t, query q, and the four slices as they are lent; the answer r, and the four as they are left
-pub record Solved (t : List ℕ) (q : Query) (before : Lent) (r : Answer) (after : Lent) : Type 0 where
-  pub answers : r ≡ answer (checkOf t) (sized (netOf t) before) (netOf t) q (length (before .journey))
-  pub journey : after .journey ≡ journeyLeft (checkOf t) (sized (netOf t) before) (netOf t) q (before .journey)
-  pub workspace : WorkspaceLeft (netOf t) q (lowest (checkOf t) (sized (netOf t) before) (netOf t) q) before after
+-- tables w, query q, and the four slices as they are lent; the answer r, and the four as they are left
+pub record Solved (w : List ℕ) (q : Query) (before : Lent) (r : Answer) (after : Lent) : Type 0 where
+  pub answers : r ≡ answer (checkOf w) (sized (netOf w) before) (netOf w) q (length (before .journey))
+  pub journey : after .journey ≡ journeyLeft (checkOf w) (sized (netOf w) before) (netOf w) q (before .journey)
+  pub workspace : WorkspaceLeft (netOf w) q (lowest (checkOf w) (sized (netOf w) before) (netOf w) q) before after

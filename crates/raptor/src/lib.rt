@@ -35,24 +35,24 @@ pub fn room(tables: &[u32]) -> Needed
 {
     let number = check(tables);
     if number == 0 {
-        let n = repository::places::stop_count(tables);
-        let m = repository::routes::route_count(tables);
+        let stops = repository::places::stop_count(tables);
+        let routes = repository::routes::route_count(tables);
         return Needed::Lengths {
-            words: allocator::words_room(n, m),
-            marks: allocator::marks_room(n, m),
-            places: n as usize + n as usize,
+            words: allocator::words_room(stops, routes),
+            marks: allocator::marks_room(stops, routes),
+            places: stops as usize + stops as usize,
         };
     }
     Needed::Refused(number)
 }
 
-// Whether slices of these lengths are a workspace for n stops and m routes.
-fn has_room(n: u32, m: u32, words: usize, marks: usize, places: usize) -> bool
-    ensures { λ b. ⌜ b ≡ roomFor n m words marks places ⌝ }
+// Whether slices of these lengths are a workspace for so many stops and routes.
+fn has_room(stops: u32, routes: u32, words: usize, marks: usize, places: usize) -> bool
+    ensures { λ b. ⌜ b ≡ roomFor stops routes words marks places ⌝ }
 {
-    if words == allocator::words_room(n, m) {
-        if marks == allocator::marks_room(n, m) {
-            return places == n as usize + n as usize;
+    if words == allocator::words_room(stops, routes) {
+        if marks == allocator::marks_room(stops, routes) {
+            return places == stops as usize + stops as usize;
         }
     }
     false
@@ -73,9 +73,9 @@ pub fn solve_checked(
         (lent (now (words .exit)) (now (marks .exit)) (now (places .exit)) (now (journey .exit))) ⌝ }
 {
     let a = searching::ask_of(tables, q);
-    let n = a.stops;
-    let m = a.routes;
-    if has_room(n, m, words.len(), marks.len(), places.len()) {
+    let stops = a.stops;
+    let routes = a.routes;
+    if has_room(stops, routes, words.len(), marks.len(), places.len()) {
         let number = raptor_query::refusal(tables, q);
         if number == 0 {
             return searching::run(tables, words, marks, places, journey, a, q);

@@ -30,14 +30,14 @@ pub fn ask_of(tables: &[u32], q: Query) -> Ask
     let mode = q.mode;
     let time = q.time;
     let walks = q.walks;
-    let n = repository::places::stop_count(tables);
-    let m = repository::routes::route_count(tables);
+    let stops = repository::places::stop_count(tables);
+    let routes = repository::routes::route_count(tables);
     let d = raptor_query::direction_of(time);
     let walking = raptor_query::may_walk(walks);
     let t = raptor_query::moment_of(time);
     Ask {
-        stops: n,
-        routes: m,
+        stops: stops,
+        routes: routes,
         direction: d,
         mode: mode,
         walking: walking,
@@ -46,9 +46,9 @@ pub fn ask_of(tables: &[u32], q: Query) -> Ask
 }
 
 // The stops of a place: a stop's stand in the tables, an area's in `area`.
-fn stops_of<'a>(tables: &'a [u32], n: u32, at: Location, area: &'a [u32]) -> &'a [u32]
+fn stops_of<'a>(tables: &'a [u32], stops: u32, at: Location, area: &'a [u32]) -> &'a [u32]
     requires { ⌜ Accepted (now tables) ⌝ }
-    requires { ⌜ Place (netOf (now tables)) n at (now area) ⌝ }
+    requires { ⌜ Place (netOf (now tables)) stops at (now area) ⌝ }
     ensures { λ q. ⌜ now q ≡ placeStops (netOf (now (tables .entry))) at ⌝ }
 {
     match at {
@@ -71,16 +71,16 @@ fn search_for<'a>(
     requires { ⌜ Sized (a .stops) (a .routes) (now words) (now marks) ⌝ }
     requires { ⌜ Place (netOf (now tables)) (a .stops) (q .from) (now origins) ⌝ }
     requires { ⌜ Place (netOf (now tables)) (a .stops) (q .to) (now goals) ⌝ }
-    ensures { λ g. ⌜ stateOf (view (a .stops) (a .routes) (now (words .exit)) (now (marks .exit))) g
+    ensures { λ aimed. ⌜ stateOf (view (a .stops) (a .routes) (now (words .exit)) (now (marks .exit))) aimed
         ≡ searched (netOf (now (tables .entry))) q ⌝ }
     ensures { λ _. ⌜ Usable (a .stops) (a .routes) (now (words .exit)) (now (marks .exit)) ⌝ }
 {
-    let n = a.stops;
+    let stops = a.stops;
     let d = a.direction;
     let from = q.from;
     let to = q.to;
-    let left = stops_of(tables, n, from, origins);
-    let reached = stops_of(tables, n, to, goals);
+    let left = stops_of(tables, stops, from, origins);
+    let reached = stops_of(tables, stops, to, goals);
     match d {
         Direction::Departure => {
             return raptor_rounds::search(tables, words, marks, a, left, reached);
@@ -108,14 +108,14 @@ fn search_in<'a>(
     requires { ⌜ sizes .origins ≤ a .stops ⌝ }
     requires { ⌜ sizes .goals ≤ a .stops ⌝ }
     requires { ⌜ length (now places) ≡ a .stops + a .stops ⌝ }
-    ensures { λ g. ⌜ stateOf (view (a .stops) (a .routes) (now (words .exit)) (now (marks .exit))) g
+    ensures { λ aimed. ⌜ stateOf (view (a .stops) (a .routes) (now (words .exit)) (now (marks .exit))) aimed
         ≡ searched (netOf (now (tables .entry))) q ⌝ }
     ensures { λ _. ⌜ Usable (a .stops) (a .routes) (now (words .exit)) (now (marks .exit)) ⌝ }
 {
     let i = sizes.origins;
     let k = sizes.goals;
-    let n = a.stops;
-    let half = n as usize;
+    let stops = a.stops;
+    let half = stops as usize;
     let end = half + k;
     let origins = &places[..i];
     let goals = &places[half..end];
@@ -134,16 +134,16 @@ fn place_and_search(
     requires { ⌜ Posed (now tables) q a ⌝ }
     requires { ⌜ Sized (a .stops) (a .routes) (now words) (now marks) ⌝ }
     requires { ⌜ length (now places) ≡ a .stops + a .stops ⌝ }
-    ensures { λ g. ⌜ stateOf (view (a .stops) (a .routes) (now (words .exit)) (now (marks .exit))) g
+    ensures { λ aimed. ⌜ stateOf (view (a .stops) (a .routes) (now (words .exit)) (now (marks .exit))) aimed
         ≡ searched (netOf (now (tables .entry))) q ⌝ }
     ensures { λ _. ⌜ Usable (a .stops) (a .routes) (now (words .exit)) (now (marks .exit)) ⌝ }
     ensures { λ _. ⌜ now (places .exit)
         ≡ placed (netOf (now (tables .entry))) (q .from) ++ placed (netOf (now (tables .entry))) (q .to) ⌝ }
 {
-    let n = a.stops;
+    let stops = a.stops;
     let from = q.from;
     let to = q.to;
-    let sizes = raptor_query::write_places(tables, places, n, from, to);
+    let sizes = raptor_query::write_places(tables, places, stops, from, to);
     search_in(tables, words, marks, places, sizes, a, q)
 }
 
@@ -163,9 +163,9 @@ pub fn run(
     ensures { λ r. ⌜ Ran (netOf (now (tables .entry))) q (now (journey .entry)) r
         (lent (now (words .exit)) (now (marks .exit)) (now (places .exit)) (now (journey .exit))) ⌝ }
 {
-    let n = a.stops;
-    let m = a.routes;
+    let stops = a.stops;
+    let routes = a.routes;
     let d = a.direction;
-    let g = place_and_search(tables, words, marks, places, a, q);
-    raptor_reply::reply(words, journey, n, m, d, g)
+    let aimed = place_and_search(tables, words, marks, places, a, q);
+    raptor_reply::reply(words, journey, stops, routes, d, aimed)
 }
