@@ -20,13 +20,13 @@ short-few : (fault : ℕ) → fault ≤ 5 → shortNumber fault ≤ 6
 unfolding shortNumber
 short-few fault h = cond-elim (λ x. x ≤ 6) (eqb fault 0) _ _ (λ e. omega arith) (λ e. omega arith)
 
-pub never-too-long : (t : List ℕ) (q : Query) (before : Lent) (a : List ℕ) {r : ℕ} {after : Lent} {a′ : List ℕ}
-    → Faced t q before a r after a′ → 69_692 ≤ length (before .journey) → r ≢ 12
-never-too-long t q before a f l e =
+pub never-too-long : (w : List ℕ) (q : Query) (before : Lent) (a : List ℕ) {r : ℕ} {after : Lent} {a′ : List ℕ}
+    → Faced w q before a r after a′ → 69_692 ≤ length (before .journey) → r ≢ 12
+never-too-long w q before a f l e =
     elim (decLt (length a) 5) [
-      | yes h ↦ omega (arith, short-few (checkOf t) (check-most t), f .short h .0)
+      | yes h ↦ omega (arith, short-few (checkOf w) (check-most w), f .short h .0)
       | no h ↦
           let x = f .solved (omega arith) in
-          let b = too-long-length t q before (x .1) (number-12 t q before (x .1) (sym (x .2) ∙ e)) in
-          omega (arith, length-most t q before (x .1), b .1)
+          let b = too-long-length w q before (x .1) (number-12 w q before (x .1) (sym (x .2) ∙ e)) in
+          omega (arith, length-most w q before (x .1), b .1)
     ]

@@ -25,26 +25,26 @@ unfolding shortNumber
 short-some zero e = omega arith
 short-some (suc k) e = let f : suc k ≡ 0 = rw (ne-eqb (suc k) 0 (λ g. omega arith)) at e in omega arith
 
-module _ (t : List ℕ) (q : Query) (before : Lent) (a : List ℕ) where
+module _ (w : List ℕ) (q : Query) (before : Lent) (a : List ℕ) where
   -- the answer that is known to be a journey, where the contract names it
-  solved-so : {x : Answer} {after : Lent} {time : Time} {s k z : ℕ} → x ≡ Found time s k z → Solved t q before x after
-      → Solved t q before (Found time s k z) after
-  solved-so {after = after} e h = subst (λ (b : Answer). Solved t q before b after) e h
+  solved-so : {x : Answer} {after : Lent} {time : Time} {s k z : ℕ} → x ≡ Found time s k z → Solved w q before x after
+      → Solved w q before (Found time s k z) after
+  solved-so {after = after} e h = subst (λ (b : Answer). Solved w q before b after) e h
 
   told-so : {x : Answer} {a′ : List ℕ} {time : Time} {s k z : ℕ} → x ≡ Found time s k z → a′ ≡ toldIn (given x) a
       → a′ ≡ 0 ∷ time .0 ∷ s ∷ k ∷ z ∷ drop 5 a
   unfolding given toldIn
   told-so e h = h ∙ ap (λ (b : Answer). toldIn (given b) a) e
 
-  pub faced-found : {r : ℕ} {after : Lent} {a′ : List ℕ} → Faced t q before a r after a′ → r ≡ 0
-      → (time : Time) × (s : ℕ) × (k : ℕ) × (z : ℕ) × Solved t q before (Found time s k z) after
+  pub faced-found : {r : ℕ} {after : Lent} {a′ : List ℕ} → Faced w q before a r after a′ → r ≡ 0
+      → (time : Time) × (s : ℕ) × (k : ℕ) × (z : ℕ) × Solved w q before (Found time s k z) after
       × (a′ ≡ 0 ∷ time .0 ∷ s ∷ k ∷ z ∷ drop 5 a)
   faced-found f e =
       elim (decLt (length a) 5) [
-        | yes h ↦ absurd (short-some (checkOf t) (sym (f .short h .0) ∙ e))
+        | yes h ↦ absurd (short-some (checkOf w) (sym (f .short h .0) ∙ e))
         | no h ↦
             let x = f .solved (omega arith) in
             let g = given (x .0) in
-            let n = number-0 t q before (x .1) (sym (x .2) ∙ e) in
-            (record { 0 = g .time }, g .stop, g .round, g .length, solved-so n (x .1), told-so n (x .3))
+            let is = number-0 w q before (x .1) (sym (x .2) ∙ e) in
+            (record { 0 = g .time }, g .stop, g .round, g .length, solved-so is (x .1), told-so is (x .3))
       ]

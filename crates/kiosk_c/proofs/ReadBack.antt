@@ -50,11 +50,11 @@ module _ (b : List ℕ) where
       cc
 
 -- where `kiosk_solve` gives 0, as many bytes of the journey as its answer's length says are walked as the legs of the search
-module _ (t : List ℕ) (q : Query) (before : Lent) (a : List ℕ) where
-  walked : {after : Lent} {a′ : List ℕ} {time : Time} {s k z : ℕ} → Solved t q before (Found time s k z) after
-      → a′ ≡ 0 ∷ time .0 ∷ s ∷ k ∷ z ∷ drop 5 a → FaceLegsFrom (take (getD a′ 4 0) (after .journey)) 0 (legsOf (netOf t) q)
-  walked {after} {z = z} h e = rw e (face-legs-from (take z (after .journey)) (legsOf (netOf t) q) (reads-back t q before h refl))
+module _ (w : List ℕ) (q : Query) (before : Lent) (a : List ℕ) where
+  walked : {after : Lent} {a′ : List ℕ} {time : Time} {s k z : ℕ} → Solved w q before (Found time s k z) after
+      → a′ ≡ 0 ∷ time .0 ∷ s ∷ k ∷ z ∷ drop 5 a → FaceLegsFrom (take (getD a′ 4 0) (after .journey)) 0 (legsOf (netOf w) q)
+  walked {after} {z = z} h e = rw e (face-legs-from (take z (after .journey)) (legsOf (netOf w) q) (reads-back w q before h refl))
 
-  pub faced-legs : {r : ℕ} {after : Lent} {a′ : List ℕ} → Faced t q before a r after a′ → r ≡ 0
-      → FaceLegsFrom (take (getD a′ 4 0) (after .journey)) 0 (legsOf (netOf t) q)
-  faced-legs f e = let g = faced-found t q before a f e in walked (g .4) (g .5)
+  pub faced-legs : {r : ℕ} {after : Lent} {a′ : List ℕ} → Faced w q before a r after a′ → r ≡ 0
+      → FaceLegsFrom (take (getD a′ 4 0) (after .journey)) 0 (legsOf (netOf w) q)
+  faced-legs f e = let g = faced-found w q before a f e in walked (g .4) (g .5)

@@ -26,11 +26,11 @@ module _ (x : Reading) (told : List ℕ) where
   unread-left h = rw (lt-leb 1 (length told) h)
 
 module _ (x : Reading) (told : List ℕ) (h : 1 ≤ length told) {y : Reading} (is : y ≡ x) where
-  pub count-number : {n : ℕ} → y ≡ Legs n → 0 ≡ readNumber x told
+  pub count-number : {count : ℕ} → y ≡ Legs count → 0 ≡ readNumber x told
   unfolding readNumber readKind
   count-number e = rw (le-leb 1 (length told) h, sym is ∙ e)
 
-  pub offset-number : {n : ℕ} → y ≡ Bad n → 13 ≡ readNumber x told
+  pub offset-number : {offset : ℕ} → y ≡ Bad offset → 13 ≡ readNumber x told
   unfolding readNumber readKind
   offset-number e = rw (le-leb 1 (length told) h, sym is ∙ e)
 
@@ -39,13 +39,13 @@ first v (x ∷ l) h = refl
 first v [] h = absurd (omega arith)
 
 module _ (x : Reading) (told : List ℕ) (h : 1 ≤ length told) {y : Reading} (is : y ≡ x) where
-  pub count-left : {n : ℕ} → y ≡ Legs n → set told 0 n ≡ readLeft x told
+  pub count-left : {count : ℕ} → y ≡ Legs count → set told 0 count ≡ readLeft x told
   unfolding readLeft readWord
-  count-left {n} e = rw (le-leb 1 (length told) h, sym is ∙ e) (first n told h)
+  count-left {count} e = rw (le-leb 1 (length told) h, sym is ∙ e) (first count told h)
 
-  pub offset-left : {n : ℕ} → y ≡ Bad n → set told 0 n ≡ readLeft x told
+  pub offset-left : {offset : ℕ} → y ≡ Bad offset → set told 0 offset ≡ readLeft x told
   unfolding readLeft readWord
-  offset-left {n} e = rw (le-leb 1 (length told) h, sym is ∙ e) (first n told h)
+  offset-left {offset} e = rw (le-leb 1 (length told) h, sym is ∙ e) (first offset told h)
 
 module _ (x : LegRead) (leg : List ℕ) where
   pub untold-number : length leg < 6 → 6 ≡ legNumber x leg
@@ -61,7 +61,7 @@ module _ (x : LegRead) (leg : List ℕ) (h : 6 ≤ length leg) {y : LegRead} (is
   unfolding legNumber legBytes
   whole-number e f = rw (le-leb 6 (length leg) h, sym is ∙ e) f
 
-  pub whole-left : {g : Leg} {m : List ℕ} → y ≡ Whole g → m ≡ legToldIn g leg → m ≡ legLeft x leg
+  pub whole-left : {g : Leg} {leg′ : List ℕ} → y ≡ Whole g → leg′ ≡ legToldIn g leg → leg′ ≡ legLeft x leg
   unfolding legLeft legWords
   whole-left e f = rw (le-leb 6 (length leg) h, sym is ∙ e) f
 

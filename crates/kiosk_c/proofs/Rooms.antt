@@ -25,30 +25,30 @@ three a b c (x ∷ []) h = absurd (omega arith)
 three a b c (x ∷ y ∷ []) h = absurd (omega arith)
 
 -- what `room` says of tables
-record Told (t : List ℕ) (a b c : ℕ) : Type 0 where
-  none : checkOf t ≡ 0
-  words : a ≡ wordsRoom (netOf t .stops) (netOf t .routes)
-  marks : b ≡ marksRoom (netOf t .stops) (netOf t .routes)
-  places : c ≡ placesRoom (netOf t .stops)
+record Told (w : List ℕ) (a b c : ℕ) : Type 0 where
+  none : checkOf w ≡ 0
+  words : a ≡ wordsRoom (netOf w .stops) (netOf w .routes)
+  marks : b ≡ marksRoom (netOf w .stops) (netOf w .routes)
+  places : c ≡ placesRoom (netOf w .stops)
 
-module _ (t : List ℕ) {r : Needed} (e : r ≡ roomOf t) where
+module _ (w : List ℕ) {r : Needed} (e : r ≡ roomOf w) where
   module _ {a b c : ℕ} (f : r ≡ Lengths a b c) where
-    told : Told t a b c
+    told : Told w a b c
     unfolding roomOf roomBy
-    told = go (checkOf t) refl
+    told = go (checkOf w) refl
       where
-        go : (k : ℕ) → checkOf t ≡ k → Told t a b c
+        go : (k : ℕ) → checkOf w ≡ k → Told w a b c
         go zero g =
-            let z : Lengths a b c ≡ Lengths (wordsRoom (netOf t .stops) (netOf t .routes)) (marksRoom (netOf t .stops) (netOf t .routes)) (placesRoom (netOf t .stops)) =
-            sym f ∙ e ∙ ap (roomBy (netOf t)) g in
+            let z : Lengths a b c ≡ Lengths (wordsRoom (netOf w .stops) (netOf w .routes)) (marksRoom (netOf w .stops) (netOf w .routes)) (placesRoom (netOf w .stops)) =
+            sym f ∙ e ∙ ap (roomBy (netOf w)) g in
             record { none = g; words = cc; marks = cc; places = cc }
         go (suc k) g =
-            let z : Lengths a b c ≡ Refused (suc k) = sym f ∙ e ∙ ap (roomBy (netOf t)) g in
+            let z : Lengths a b c ≡ Refused (suc k) = sym f ∙ e ∙ ap (roomBy (netOf w)) g in
             let y : _≡_ {A = ℕ} 0 1 = cc in absurd (omega arith)
 
     few : (a < 4_294_967_296) × (b < 4_294_967_296) × (c < 4_294_967_296)
     few =
-        let h = accepted-is t .0 (told .none) in
+        let h = accepted-is w .0 (told .none) in
         let s = stops-few (h .laid) in
         let m = routes-few (h .laid) in
         let x = told .words in
@@ -66,45 +66,45 @@ module _ (t : List ℕ) {r : Needed} (e : r ≡ roomOf t) where
     places-few = few .2
 
     module _ (l : List ℕ) where
-      pub no-room : length l < 3 → 6 ≡ roomNumber t l
+      pub no-room : length l < 3 → 6 ≡ roomNumber w l
       unfolding roomNumber
-      no-room h = rw (eq-eqb (checkOf t) 0 (told .none), lt-leb 3 (length l) h)
+      no-room h = rw (eq-eqb (checkOf w) 0 (told .none), lt-leb 3 (length l) h)
 
-      pub no-room-left : length l < 3 → l ≡ roomLeft t l
+      pub no-room-left : length l < 3 → l ≡ roomLeft w l
       unfolding roomLeft
       no-room-left h = rw (← (no-room h))
 
-      pub room-number : 3 ≤ length l → 0 ≡ roomNumber t l
+      pub room-number : 3 ≤ length l → 0 ≡ roomNumber w l
       unfolding roomNumber
-      room-number h = rw (eq-eqb (checkOf t) 0 (told .none), le-leb 3 (length l) h)
+      room-number h = rw (eq-eqb (checkOf w) 0 (told .none), le-leb 3 (length l) h)
 
-      pub room-left : 3 ≤ length l → set (set (set l 0 a) 1 b) 2 c ≡ roomLeft t l
+      pub room-left : 3 ≤ length l → set (set (set l 0 a) 1 b) 2 c ≡ roomLeft w l
       unfolding roomLeft
       room-left h = three a b c l h ∙ rw (← (room-number h), told .words, told .marks, told .places)
 
   module _ {k : ℕ} (f : r ≡ Refused k) (l : List ℕ) where
-    number : checkOf t ≡ k
+    number : checkOf w ≡ k
     unfolding roomOf roomBy
-    number = go (checkOf t) refl
+    number = go (checkOf w) refl
       where
-        go : (i : ℕ) → checkOf t ≡ i → checkOf t ≡ k
+        go : (i : ℕ) → checkOf w ≡ i → checkOf w ≡ k
         go zero g =
-            let z : Refused k ≡ Lengths _ _ _ = sym f ∙ e ∙ ap (roomBy (netOf t)) g in
+            let z : Refused k ≡ Lengths _ _ _ = sym f ∙ e ∙ ap (roomBy (netOf w)) g in
             let y : _≡_ {A = ℕ} 0 1 = cc in absurd (omega arith)
         go (suc i) g =
-            let z : Refused k ≡ Refused (suc i) = sym f ∙ e ∙ ap (roomBy (netOf t)) g in
+            let z : Refused k ≡ Refused (suc i) = sym f ∙ e ∙ ap (roomBy (netOf w)) g in
             let y : k ≡ suc i = cc in g ∙ sym y
 
-    some : checkOf t ≡ 0 → ⊥
+    some : checkOf w ≡ 0 → ⊥
     unfolding roomOf roomBy
     some g =
-        let z : Refused k ≡ Lengths _ _ _ = sym f ∙ e ∙ ap (roomBy (netOf t)) g in
+        let z : Refused k ≡ Lengths _ _ _ = sym f ∙ e ∙ ap (roomBy (netOf w)) g in
         let y : _≡_ {A = ℕ} 0 1 = cc in omega arith
 
-    pub refused-number : k ≡ roomNumber t l
+    pub refused-number : k ≡ roomNumber w l
     unfolding roomNumber
-    refused-number = rw (ne-eqb (checkOf t) 0 some) (sym number)
+    refused-number = rw (ne-eqb (checkOf w) 0 some) (sym number)
 
-    pub refused-left : l ≡ roomLeft t l
+    pub refused-left : l ≡ roomLeft w l
     unfolding roomLeft
-    refused-left = rw (ne-eqb (roomNumber t l) 0 (λ g. some (number ∙ refused-number ∙ g)))
+    refused-left = rw (ne-eqb (roomNumber w l) 0 (λ g. some (number ∙ refused-number ∙ g)))

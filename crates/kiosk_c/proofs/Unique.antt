@@ -13,9 +13,9 @@ use Rattle.raptor.proofs.Unique.{solved-unique}
 use Rattle.kiosk_words.specs.Words.{toldIn}
 use Rattle.kiosk_c.specs.Face.{Faced}
 
-pub faced-unique : (t : List ℕ) (q : Query) (before : Lent) (a : List ℕ) {r r′ : ℕ} {after after′ : Lent} {a₁ a₂ : List ℕ}
-    → Faced t q before a r after a₁ → Faced t q before a r′ after′ a₂ → (r ≡ r′) × (after ≡ after′) × (a₁ ≡ a₂)
-faced-unique t q before a f g =
+pub faced-unique : (w : List ℕ) (q : Query) (before : Lent) (a : List ℕ) {r r′ : ℕ} {after after′ : Lent} {a₁ a₂ : List ℕ}
+    → Faced w q before a r after a₁ → Faced w q before a r′ after′ a₂ → (r ≡ r′) × (after ≡ after′) × (a₁ ≡ a₂)
+faced-unique w q before a f g =
     elim (decLt (length a) 5) [
       | yes h ↦
           let x = f .short h in
@@ -24,7 +24,7 @@ faced-unique t q before a f g =
       | no h ↦
           let x = f .solved (omega arith) in
           let z = g .solved (omega arith) in
-          let u = solved-unique t q before (x .1) (z .1) in (
+          let u = solved-unique w q before (x .1) (z .1) in (
             x .2 ∙ ap (λ (b : Answer). (given b) .number) (u .0) ∙ sym (z .2),
             u .1,
             x .3 ∙ ap (λ (b : Answer). toldIn (given b) a) (u .0) ∙ sym (z .3),

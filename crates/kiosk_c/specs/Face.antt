@@ -20,16 +20,16 @@ unfoldable pub shortNumber : ℕ → ℕ
 shortNumber fault = cond (eqb fault 0) 6 fault
 
 -- what a call answers and leaves, a its answer's words: in an answer too short for it nothing is told, and nothing is touched
-pub record Faced (t : List ℕ) (q : Query) (before : Lent) (a : List ℕ) (r : ℕ) (after : Lent) (a′ : List ℕ) : Type 0 where
-  pub short : length a < 5 → (r ≡ shortNumber (checkOf t)) × (after ≡ before) × (a′ ≡ a)
-  pub solved : 5 ≤ length a → (x : Answer) × Solved t q before x after × (r ≡ (given x) .number) × (a′ ≡ toldIn (given x) a)
+pub record Faced (w : List ℕ) (q : Query) (before : Lent) (a : List ℕ) (r : ℕ) (after : Lent) (a′ : List ℕ) : Type 0 where
+  pub short : length a < 5 → (r ≡ shortNumber (checkOf w)) × (after ≡ before) × (a′ ≡ a)
+  pub solved : 5 ≤ length a → (x : Answer) × Solved w q before x after × (r ≡ (given x) .number) × (a′ ≡ toldIn (given x) a)
 
 -- the room: its three lengths where the tables are accepted and there are three words for them
 unfoldable pub roomNumber : List ℕ → List ℕ → ℕ
-roomNumber t room = cond (eqb (checkOf t) 0) (cond (leb 3 (length room)) 0 6) (checkOf t)
+roomNumber w room = cond (eqb (checkOf w) 0) (cond (leb 3 (length room)) 0 6) (checkOf w)
 
 unfoldable pub roomLeft : List ℕ → List ℕ → List ℕ
-roomLeft t room =
-    cond (eqb (roomNumber t room) 0)
-    (wordsRoom (netOf t .stops) (netOf t .routes) ∷ marksRoom (netOf t .stops) (netOf t .routes) ∷ placesRoom (netOf t .stops) ∷ drop 3 room)
+roomLeft w room =
+    cond (eqb (roomNumber w room) 0)
+    (wordsRoom (netOf w .stops) (netOf w .routes) ∷ marksRoom (netOf w .stops) (netOf w .routes) ∷ placesRoom (netOf w .stops) ∷ drop 3 room)
     room

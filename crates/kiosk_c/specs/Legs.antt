@@ -17,12 +17,12 @@ use Rattle.journey.specs.Reading.{legFrom}
 
 -- what is read, in one word: 0 and how many legs, 13 and the offset; 6 where there is no word
 unfoldable pub readWord : Reading → ℕ
-readWord (Legs n) = n
-readWord (Bad o) = o
+readWord (Legs count) = count
+readWord (Bad offset) = offset
 
 unfoldable pub readKind : Reading → ℕ
-readKind (Legs n) = 0
-readKind (Bad o) = 13
+readKind (Legs count) = 0
+readKind (Bad offset) = 13
 
 unfoldable pub readNumber : Reading → List ℕ → ℕ
 readNumber x told = cond (leb 1 (length told)) (readKind x) 6

@@ -27,16 +27,16 @@ pub extern "C" fn kiosk_room(tables: &[u32], room: &mut [u32]) -> u32
     let needed = raptor::room(tables);
     match needed {
         Needed::Lengths {
-            words: w,
-            marks: y,
-            places: p,
+            words: words,
+            marks: marks,
+            places: places,
         } => {
             if room.len() < 3 {
                 return 6;
             }
-            room[0] = w as u32;
-            room[1] = y as u32;
-            room[2] = p as u32;
+            room[0] = words as u32;
+            room[1] = marks as u32;
+            room[2] = places as u32;
             return 0;
         }
         Needed::Refused(number) => return number,

@@ -123,11 +123,11 @@ unfolding computed
 N9-places = refl
 
 -- a workspace of the right lengths is there for every network
-pub roomy : (n : Net) (j : List ℕ)
-    → sized n (lent (replicate (wordsRoom (n .stops) (n .routes)) 0) (replicate (marksRoom (n .stops) (n .routes)) 0) (replicate (placesRoom (n .stops)) 0) j)
+pub roomy : (n : Net) (buffer : List ℕ)
+    → sized n (lent (replicate (wordsRoom (n .stops) (n .routes)) 0) (replicate (marksRoom (n .stops) (n .routes)) 0) (replicate (placesRoom (n .stops)) 0) buffer)
     ≡ true
 unfolding sized roomFor
-roomy n j =
+roomy n buffer =
     rw (
       eq-eqb _ _ (length-replicate {A = ℕ} (wordsRoom (n .stops) (n .routes)) 0),
       eq-eqb _ _ (length-replicate {A = ℕ} (marksRoom (n .stops) (n .routes)) 0),

@@ -46,12 +46,12 @@ pub N-answered : (q : Query) (fault : ℕ) (fits : Bool) (room : ℕ)
 N-answered = alike-answered N-alike N-words-sound N-words-places
 
 -- a workspace of the lengths that the words ask for (`roomy` of Computed.antt)
-pub answered : (t : List ℕ) → Accepted t → (q : Query) {before : Lent} {r : Answer} {after : Lent} → Solved t q before r after
-    → sized (netOf t) before ≡ true → r ≡ answer 0 true (netOf t) q (length (before .journey))
-answered t ok q {before} h roomy =
+pub answered : (w : List ℕ) → Accepted w → (q : Query) {before : Lent} {r : Answer} {after : Lent} → Solved w q before r after
+    → sized (netOf w) before ≡ true → r ≡ answer 0 true (netOf w) q (length (before .journey))
+answered w ok q {before} h roomy =
     h .answers
-    ∙ ap (λ (c : ℕ). answer c (sized (netOf t) before) (netOf t) q (length (before .journey))) (accepted-is t .1 ok)
-    ∙ ap (λ (b : Bool). answer 0 b (netOf t) q (length (before .journey))) roomy
+    ∙ ap (λ (c : ℕ). answer c (sized (netOf w) before) (netOf w) q (length (before .journey))) (accepted-is w .1 ok)
+    ∙ ap (λ (b : Bool). answer 0 b (netOf w) q (length (before .journey))) roomy
 
 -- and a buffer of 59 bytes or more
 module _ {before : Lent} {r : Answer} {after : Lent} (h : Solved N from-0-at-50 before r after)
@@ -90,6 +90,6 @@ module _ {before : Lent} {r : Answer} {after : Lent} (h : Solved N from-0-at-50 
   pub N10-answer : r ≡ TooLong 59
   N10-answer = answered N N-accepted from-0-at-50 h roomy ∙ ap (answer 0 true (netOf N) from-0-at-50) short ∙ N10-answered
 
-  pub N10-journey : let g = (searched (netOf N) from-0-at-50) .times .target in
-      AskedFor (netOf N) from-0-at-50 (g .stop) (g .time .0) (suc (g .round)) (legsBy (netOf N) from-0-at-50 turned)
+  pub N10-journey : let aimed = (searched (netOf N) from-0-at-50) .times .target in
+      AskedFor (netOf N) from-0-at-50 (aimed .stop) (aimed .time .0) (suc (aimed .round)) (legsBy (netOf N) from-0-at-50 turned)
   N10-journey = too-long-journey N from-0-at-50 before h N10-answer turned turned-fair
