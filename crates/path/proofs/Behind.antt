@@ -22,12 +22,12 @@ use Rattle.path.specs.Traced.{Traced}
 use Rattle.path.proofs.Steps.{step-done, step-on}
 
 -- the leg that the code reads is the parent
-read : (o : Option Leg) {p : Parent} {g : Leg} → p ≡ parentOf o → p ≡ By g → o ≡ some g
+read : (x : Option Leg) {p : Parent} {g : Leg} → p ≡ parentOf x → p ≡ By g → x ≡ some g
 unfolding parentOf
 read none e q = let z : _≡_ {A = ℕ} 0 1 = cc in absurd (omega arith)
 read (some h) e q = cc
 
-none-read : (o : Option Leg) {p : Parent} → p ≡ parentOf o → p ≡ Nothing → o ≡ none
+none-read : (x : Option Leg) {p : Parent} → p ≡ parentOf x → p ≡ Nothing → x ≡ none
 unfolding parentOf
 none-read none e q = refl
 none-read (some h) e q = let z : _≡_ {A = ℕ} 0 1 = cc in absurd (omega arith)

@@ -60,14 +60,14 @@ module _ {d : Direction} {stops : ℕ} {w : List (Option Leg)} {k₀ s₀ : ℕ}
           same = x .same ∙ h .same;
           place = x .place;
           room = omega (arith, x .same, h .room, v);
-          rest = x .rest ∙ ap (λ o. withBytes b a (write (inOrder d o))) (sym c) ∙ h .rest;
+          rest = x .rest ∙ ap (λ gs. withBytes b a (write (inOrder d gs))) (sym c) ∙ h .rest;
         }
 
     none-left : r ≡ Done → Left d g [] b a y a′ e′ → {size : ℕ} → size ≡ sizeOf (back d stops w stops k₀ s₀)
         → y ≡ write (inOrder d (back d stops w stops k₀ s₀)) ++ drop size b₀
     none-left z x v =
         let c = at-end (h .traced) i q f z in
-        all-there x ∙ ap (λ o. withBytes b a (write (inOrder d o))) (sym c) ∙ h .rest ∙ at-front d _ b₀ v
+        all-there x ∙ ap (λ gs. withBytes b a (write (inOrder d gs))) (sym c) ∙ h .rest ∙ at-front d _ b₀ v
 
 -- ---- a departure search: the leg ends at e
 module _ {stops : ℕ} {w : List (Option Leg)} {k₀ s₀ : ℕ} {b₀ : List ℕ} {k s e : ℕ} {b : List ℕ}
@@ -124,6 +124,6 @@ module _ {d c : Direction} (f : d ≡ c) (stops : ℕ) (w : List (Option Leg)) (
   pub size-as : {size : ℕ} → size ≡ sizeOf (back d stops w stops k s) → size ≡ sizeOf (back c stops w stops k s)
   size-as h = rw (← f) h
 
-  pub written-as : (o : List ℕ) {y : List ℕ} → y ≡ write (inOrder c (back c stops w stops k s)) ++ o
-      → y ≡ write (inOrder d (back d stops w stops k s)) ++ o
-  written-as o h = rw f h
+  pub written-as : (behind : List ℕ) {y : List ℕ} → y ≡ write (inOrder c (back c stops w stops k s)) ++ behind
+      → y ≡ write (inOrder d (back d stops w stops k s)) ++ behind
+  written-as behind h = rw f h
