@@ -24,7 +24,7 @@ unfoldable pub proposesAt : Direction → List ℕ → ℕ → ℕ → Call → 
 proposesAt d w target best here a =
     ahead d (reachIn d w (a .row) (here .position)) target && better d (reachIn d w (a .row) (here .position)) best
 
--- the label allows another trip than the one aboard; an absent label catches none
+-- the label allows a trip to be caught, the one aboard or another; an absent label catches none
 unfoldable pub catchesAt : Direction → List ℕ → Call → Ride → Bool
 catchesAt d w here a =
     cond (eqb (here .label .0) 0) false (allows d (netOf w) (here .label .0) (here .position) (aboard a))

@@ -57,7 +57,7 @@ fn meets_at(d: Direction, t: Time, label: Time) -> bool
     }
 }
 
-// Whether the label lets another trip than the one aboard be caught here. An absent label catches none.
+// Whether the label lets a trip be caught here, the one aboard or another. An absent label catches none.
 fn catches(tables: &[u32], d: Direction, here: Call, ride: Ride) -> bool
     requires { ⌜ OnRoute (now tables) here ⌝ }
     requires { ⌜ Seat (now tables) (here .route) ride ⌝ }
