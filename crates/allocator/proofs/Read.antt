@@ -22,7 +22,7 @@ use Rattle.allocator.specs.Rows.{rowLeg, decoded, rowOf, parentIn, paren
 use Rattle.allocator.specs.Layout.{pages, Words, prevOf, currOf, bestOf, heldOf, activeOf, parentsOf, markOf, heldMarkOf, maskOf}
 use Rattle.allocator.specs.Marked.{after}
 use Rattle.allocator.proofs.Sections.{sect-get, sect-sect}
-use Rattle.allocator.proofs.Tabulated.{tab-at}
+use Rattle.base.proofs.Tab.{tab-at}
 use Rattle.allocator.proofs.Flagged.{stops-after}
 
 module _ (stops routes : ℕ) (ws : List ℕ) (i : ℕ) where

@@ -1,9 +1,9 @@
 -- A list by what stands at each place: two that agree, one that differs at one place, and what is left of it.
 -- Assumes nothing.
-use mathlib.Core.Path.{_≡_, refl, sym, ap, _∙_}
+use mathlib.Core.Path.{_≡_, sym, ap, _∙_}
 use mathlib.Core.List.{List}
 use Prim.Native.Nat.{ℕ, zero, suc, _+_, _-_, _<_}
-use native.Mathlib.Nat.{add-zero, add-suc, suc-add, zero-add}
+use native.Mathlib.Nat.{add-zero}
 use native.Mathlib.Omega.{arith}
 use borrow.Author.Tests.{eqb-true, eqb-false}
 use lib.Dec.{eqb}
@@ -11,22 +11,9 @@ use lib.ListN.{length, getD, set, drop, replicate, length-set, length-replicate,
 use lib.Seq.{getD-set-same, getD-set-other, ext-getD}
 use Rattle.base.proofs.Choice.{split}
 use Rattle.base.specs.Tab.{tab}
+use Rattle.base.proofs.Tab.{tab-length, tab-at}
 
 module _ {A : Type 0} (f : ℕ → A) where
-  pub tab-length : (count i : ℕ) → length (tab f count i) ≡ count
-  unfolding tab
-  tab-length zero i = refl
-  tab-length (suc count) i = ap suc (tab-length count (suc i))
-
-  at : (count i k : ℕ) (d : A) → k < count → getD (tab f count i) k d ≡ f (i + k)
-  unfolding tab
-  at zero i k d h = absurd (omega arith)
-  at (suc count) i zero d h = ap f (sym (add-zero i))
-  at (suc count) i (suc k) d h = at count (suc i) k d (omega arith) ∙ ap f (suc-add i k ∙ sym (add-suc i k))
-
-  pub tab-at : (count k : ℕ) (d : A) → k < count → getD (tab f count 0) k d ≡ f k
-  tab-at count k d h = at count 0 k d h ∙ ap f (zero-add k)
-
   pub tab-drop : (count i k : ℕ) → drop k (tab f count i) ≡ tab f (count - k) (i + k)
   unfolding tab
   tab-drop count i zero = let e : count - 0 ≡ count = omega arith in rw (add-zero, e)
@@ -38,11 +25,11 @@ module _ {A : Type 0} (f : ℕ → A) where
 
   pub tab-all : (count : ℕ) (v : A) → ((k : ℕ) → k < count → f k ≡ v) → tab f count 0 ≡ replicate count v
   tab-all count v e =
-      let long = tab-length count 0 in
+      let long = tab-length f count 0 in
       ext-getD v (tab f count 0) (replicate count v) (long ∙ sym (length-replicate count v))
       (λ k l.
       let h : k < count = omega arith in
-      tab-at count k v h ∙ e k h ∙ sym (getD-replicate count k v v h))
+      tab-at f count k v h ∙ e k h ∙ sym (getD-replicate count k v v h))
 
 module _ {A : Type 0} (f g : ℕ → A) (count : ℕ) where
   pub tab-set : (i : ℕ) (v : A) → i < count → g i ≡ v → ((k : ℕ) → k < count → (k ≡ i → ⊥) → g k ≡ f k)

@@ -8,3 +8,4 @@ pub mod Bits
 pub mod Each
 pub mod Distinct
 pub mod Below
+pub mod Put

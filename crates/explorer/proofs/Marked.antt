@@ -10,7 +10,7 @@ use Rattle.marks.specs.declared.Next.{Next}
 use Rattle.marks.specs.declared.Next.the-variants.{At}
 use Rattle.allocator.specs.Layout.{Sized, flags, markOf, heldMarkOf}
 use Rattle.allocator.specs.Marked.{after}
-use Rattle.allocator.proofs.Tabulated.{tab-length}
+use Rattle.base.proofs.Tab.{tab-length}
 use Rattle.allocator.proofs.Visited.{after-from, after-below}
 
 -- as many flags as stops

@@ -19,7 +19,7 @@ use Rattle.allocator.specs.Sections.{sect}
 use Rattle.allocator.specs.Layout.{pages, flags, activeOf, maskOf, view}
 use Rattle.allocator.specs.Does.{Usable, Does}
 use Rattle.allocator.specs.Marked.{after}
-use Rattle.allocator.proofs.Tabulated.{tab-length}
+use Rattle.base.proofs.Tab.{tab-length}
 use Rattle.allocator.proofs.Visited.{after-start, after-from, after-below, after-next, after-none}
 use Rattle.explorer.specs.declared.Round.{Round}
 use Rattle.explorer.specs.Fixed.{InRound}

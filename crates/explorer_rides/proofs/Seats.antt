@@ -13,7 +13,7 @@ use Rattle.repository.specs.Rows.{TripOf, timeCount}
 use Rattle.repository.proofs.Stops.{stop-known}
 use Rattle.repository.specs.Readable.{Searchable}
 use Rattle.repository.proofs.Trips.{time-known, place-few}
-use Rattle.allocator.proofs.Tabulated.{tab-length, tab-at}
+use Rattle.base.proofs.Tab.{tab-length, tab-at}
 use Rattle.explorer.specs.declared.Round.{Round}
 use Rattle.explorer_rides.specs.declared.Call.{Call}
 use Rattle.explorer_rides.specs.declared.Ride.{Ride}

@@ -62,7 +62,7 @@ enum kiosk_number {
     KIOSK_FAILED_TO_BUILD_ROUTE = 11,   /* a chosen stop but no leg; proved never to be given */
     KIOSK_TOO_LONG = 12,                /* the journey is longer than its buffer */
     KIOSK_BAD_LEG = 13                  /* journey bytes: an unknown kind or a cut body */
-};
+};                                      /* 14 and 15 are the feed reader's: kiosk_gtfs.h */
 
 /* The words of a query. */
 enum kiosk_place { KIOSK_STOP = 0, KIOSK_AREA = 1 };

@@ -3,10 +3,9 @@ use Prim.Native.Nat.{ℕ, zero, suc, _+_, _<_}
 use mathlib.Core.Path.{_≡_, sym, ap, _∙_}
 use mathlib.Core.Bool.{Bool}
 use mathlib.Core.List.{List}
-use native.Mathlib.Omega.{arith}
-use native.Mathlib.Nat.{add-zero, zero-add}
 use lib.ListN.{getD}
 use Rattle.base.specs.Tab.{tab}
+use Rattle.base.proofs.Tab.{tab-at}
 use Rattle.model.specs.declared.Query.{Query}
 use Rattle.model.specs.Tables.{Net}
 use Rattle.model.specs.Answer.{answer}
@@ -15,16 +14,10 @@ use Rattle.model.specs.Alike.{Alike}
 use Rattle.model.specs.Same.{Same, SamePlaces}
 use Rattle.model.proofs.SameAnswer.{answer-same}
 
-tab-at : {A : Type 0} (f : ℕ → A) (n i j : ℕ) (x : A) → j < n → getD (tab f n i) j x ≡ f (i + j)
-unfolding tab
-tab-at f zero i j x h = absurd (omega arith)
-tab-at f (suc n) i zero x h = rw (add-zero i)
-tab-at f (suc n) i (suc j) x h = tab-at f n (suc i) j x (omega arith) ∙ ap f (omega arith)
-
 -- lists of values are the same where each value is
 tabs-at : {A : Type 0} (f g : ℕ → A) (n : ℕ) → tab f n 0 ≡ tab g n 0 → (j : ℕ) → j < n → f j ≡ g j
 tabs-at {A} f g n e j h =
-    sym (tab-at f n 0 j (f 0) h ∙ ap f (zero-add j)) ∙ ap (λ (l : List A). getD l j (f 0)) e ∙ tab-at g n 0 j (f 0) h ∙ ap g (zero-add j)
+    sym (tab-at f n j (f 0) h) ∙ ap (λ (l : List A). getD l j (f 0)) e ∙ tab-at g n j (f 0) h
 
 module _ {n m : Net} (a : Alike n m) where
   pub alike-same : Same n m

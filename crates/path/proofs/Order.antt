@@ -14,8 +14,8 @@ use Rattle.model.specs.Back.{inOrder}
 use Rattle.model.specs.Bytes.{writeLeg, write, legSize, sizeOf}
 use Rattle.model.proofs.ReadBack.{leg-length, size-is}
 use Rattle.model.proofs.Reversed.{reverse-size}
-use Rattle.journey.specs.Put.{withBytes}
-use Rattle.journey.proofs.Put.{put-length, put-first, put-next}
+use Rattle.base.specs.Put.{withBytes}
+use Rattle.base.proofs.Put.{put-length, put-first, put-next}
 
 write-last : (gs : List Leg) (g : Leg) → write (gs ++ g ∷ []) ≡ write gs ++ writeLeg g
 unfolding write

@@ -16,7 +16,7 @@ use Rattle.model.specs.Bytes.{writeLeg, write, legSize, sizeOf}
 use Rattle.allocator.specs.declared.Parent.{Parent}
 use Rattle.allocator.specs.declared.Parent.the-variants.{Leg as By}
 use Rattle.allocator.specs.Rows.{parentOf}
-use Rattle.journey.specs.Put.{withBytes}
+use Rattle.base.specs.Put.{withBytes}
 use Rattle.path.specs.declared.Step.{Step}
 use Rattle.path.specs.declared.Step.the-variants.{On, Done}
 use Rattle.path.specs.Step.{stepOf}

@@ -13,7 +13,7 @@ ghost use Rattle.model.specs.Limits.{MOST-ROUNDS};
 ghost use Rattle.model.specs.Back.{near as nearSide, back, inOrder};
 ghost use Rattle.model.specs.Bytes.{writeLeg, write, legSize, sizeOf};
 ghost use Rattle.allocator.specs.Layout.{Words, parentsOf};
-ghost use Rattle.journey.specs.Put.{withBytes};
+ghost use Rattle.base.specs.Put.{withBytes};
 ghost use Rattle.path.specs.Step.{lowers, stepOf};
 ghost use Rattle.path.specs.Traced.{Traced};
 
