@@ -1,0 +1,2 @@
+-- One line of either file as values.
+pub mod Values

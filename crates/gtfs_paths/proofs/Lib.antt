@@ -1,0 +1,4 @@
+-- Laws that belong to no one function.
+pub mod Second
+pub mod Taking
+pub mod Taken

@@ -1,0 +1,3 @@
+-- The definitions that the contract of `read` cites.
+pub mod Reads
+pub mod Parts

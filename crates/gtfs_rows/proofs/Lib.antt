@@ -1,0 +1,5 @@
+-- Laws that belong to no one function.
+pub mod Named
+pub mod Taking
+pub mod Naming
+pub mod Taken

@@ -1,0 +1,3 @@
+-- The definitions that the contracts of `gtfs_rows` cite.
+pub mod Named
+pub mod Taking

@@ -1,0 +1,3 @@
+// A row of either file, taken into the tables and the books.
+pub mod books; // books.rt: a text's number
+pub mod times; // times.rt: a row of stop_times.txt

@@ -1,0 +1,2 @@
+-- The definitions that the contracts of `gtfs_times` cite.
+pub mod Told

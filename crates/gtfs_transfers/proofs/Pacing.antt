@@ -1,0 +1,278 @@
+-- Rows read one by one: those that stand in the table and what is left of the file say what all of them are.
+-- Assumes nothing.
+use Prim.Native.Nat.{ℕ, suc, _+_, _*_, _≤_, _<_}
+use mathlib.Core.Path.{_≡_, refl, sym, ap, _∙_}
+use mathlib.Core.Option.{none, some}
+use mathlib.Core.List.{List, [], _∷_, _++_}
+use native.Mathlib.Omega.{arith}
+use lib.ListN.{length, drop, length-drop, length-append, drop-of-length-le}
+use Rattle.base.specs.Put.{withBytes}
+use Rattle.base.proofs.Put.{put-then, put-length}
+use Rattle.csv.specs.Part.{part}
+use Rattle.csv.specs.Lines.{lineOf, afterLine, trimmed, lines}
+use Rattle.csv.proofs.Stepping.{lines-none, lines-step}
+use Rattle.columns.specs.Picks.{textAt}
+use Rattle.names.specs.Book.{namesIn}
+use Rattle.names.specs.Booked.{Booked}
+use Rattle.names.proofs.Booking.{booked-count}
+use Rattle.feed.specs.declared.Room.{Room}
+use Rattle.feed.specs.declared.TransferColumns.{TransferColumns}
+use Rattle.feed.specs.declared.TransferSpans.{TransferSpans}
+use Rattle.feed.specs.declared.Ending.the-variants.{Done, Bad, Full as NoRoom}
+use Rattle.feed.specs.Feed.{TransferRow, Feed, End, done, badTransfers, full, Got}
+use Rattle.feed.specs.Transfers.{transferLine, takeTransfer, transfersFrom}
+use Rattle.feed.specs.Spans.{transferAt}
+use Rattle.feed.specs.Rows.{flatBy, transferWords, flatTransfers}
+use Rattle.feed.proofs.Naming.{seen-least}
+use Rattle.feed.proofs.Rows.{flat-transfers-length, flat-transfers-append}
+use Rattle.feed.specs.Orderly.{seenAfter}
+use Rattle.feed.specs.Ending.{endingOf}
+use Rattle.gtfs_rows.proofs.Naming.{booked-here, booked-on}
+use Rattle.gtfs_paths.specs.declared.PathsReached.{PathsReached}
+use Rattle.gtfs_paths.specs.declared.PathPlan.{PathPlan}
+use Rattle.gtfs_paths.specs.declared.PathPlan.the-variants.{Enter, Full}
+use Rattle.gtfs_transfers.specs.declared.TransfersTold.{TransfersTold}
+use Rattle.gtfs_paths.specs.declared.PathTook.{PathTook}
+use Rattle.gtfs_paths.specs.declared.PathTook.the-variants.{Kept, Full as NoRow}
+use Rattle.gtfs_paths.specs.Taking.{withTransfer, pathShelf, afterPath, PathTakeable, pathIn, pathTookBy, PathLeftBy, PathTakes}
+use Rattle.gtfs_lines.specs.declared.TransferRead.{TransferRead}
+use Rattle.gtfs_lines.specs.declared.TransferRead.the-variants.{Values, Bad as Wrong}
+use Rattle.gtfs_lines.specs.Values.{transferRead, TransferSpanned}
+use Rattle.gtfs_transfers.specs.declared.PathsLine.{PathsLine}
+use Rattle.gtfs_transfers.specs.Told.{transfersTold, pathsToldAt, rowsRead, pathsLeft, stopsOnly, turnedShelf, TransfersLeft, PathsBegin, PathLine}
+use Rattle.gtfs_transfers.proofs.Lines.{from-bad, from-full, from-kept}
+use Rattle.gtfs_paths.proofs.Taking.{Fits, plan-fits, Plans, plan-right}
+
+-- the next line begins at i, and so much was reached
+pub record Pacing (first second : List ℕ) (c : TransferColumns) (room : Room) (cut : ℕ) (whole : Got) (p₀ s₀ : List ℕ) (i : ℕ) (at : PathsReached)
+    (p s : List ℕ) : Type 0 where
+  feed : Feed
+  rest : transfersFrom c room (at .transfers + 2) (lines (drop i second)) feed ≡ whole
+  held : Booked first second (pathShelf room at) s₀ s (feed .stops)
+  rows-held : p ≡ withBytes p₀ 0 (flatTransfers (feed .transfers))
+  counted : length (feed .transfers) ≡ at .transfers
+  rows-few : at .transfers ≤ room .transfers
+  rows-room : 4 * room .transfers ≤ length p₀
+  turned : at .split ≤ at .stops
+  cut-is : at .split ≡ cut
+  pub inside : i ≤ length second + 1
+  pub lines-passed : at .transfers + 1 ≤ i
+  pub short : length second ≤ 4_294_967_295
+
+row-words : (r : TransferRow) → flatTransfers (r ∷ []) ≡ r .from ∷ r .to ∷ r .kind ∷ r .span ∷ []
+unfolding flatTransfers flatBy transferWords
+row-words r = refl
+
+pub pacing-start : {first second p s : List ℕ} (c : TransferColumns) {room : Room} {cut i : ℕ} → PathsBegin room cut i first second p s
+    → Pacing first second c room cut (rowsRead room c cut i first second s) p s i (record { split = cut; stops = cut; transfers = 0 }) p s
+unfolding rowsRead withBytes flatTransfers flatBy
+pacing-start {first} {second} {p} {s} c {room} {cut} {i} k = record {
+  feed = stopsOnly (namesIn first second (turnedShelf room cut) s);
+  rest = refl;
+  held = booked-here (k .book);
+  rows-held = refl;
+  counted = refl;
+  rows-few = omega arith;
+  rows-room = k .rows;
+  turned = omega arith;
+  cut-is = refl;
+  inside = k .inside;
+  lines-passed = k .headed;
+  short = k .short;
+}
+
+-- ---- a line that ends at e, whose text ends at u
+pub line-here : (c : TransferColumns) (b : List ℕ) (i e u : ℕ) {x : TransferRead} → part i e b ≡ lineOf (drop i b) → i ≤ e → e ≤ length b
+    → afterLine (drop i b) ≡ drop (e + 1) b → part i u b ≡ trimmed (part i e b) → transferRead b x ≡ transferLine c (part i u b)
+    → TransferSpanned b x → PathLine c b i (record { values = x; next = e + 1 })
+line-here c b i e u o lo hi r m q w = record {
+  said = q ∙ ap (transferLine c) (m ∙ ap trimmed o);
+  spanned = w;
+  behind = r;
+  further = omega arith;
+  inside = omega arith;
+}
+
+-- ---- the loop
+module _ {first second : List ℕ} {c : TransferColumns} {room : Room} {cut : ℕ} {whole : Got} {p₀ s₀ : List ℕ} {i : ℕ} {at : PathsReached}
+    {p s : List ℕ} (g : Pacing first second c room cut whole p₀ s₀ i at p s) where
+  -- a reading that ends here
+  module _ (z : End) (q : transfersFrom c room (at .transfers + 2) (lines (drop i second)) (g .feed) ≡ record { feed = g .feed; end = z }) where
+    whole-is : record { feed = g .feed; end = z } ≡ whole
+    whole-is = sym q ∙ g .rest
+
+    told : {y : TransfersTold} → y ≡ pathsToldAt at (endingOf z) → y ≡ transfersTold whole
+    unfolding transfersTold pathsToldAt
+    told e = let a : at .stops ≡ length (g .feed .stops) = booked-count (g .held) in e ∙ rw (← whole-is, a, ← g .counted)
+
+    left-paths : p ≡ withBytes p₀ 0 (flatTransfers (whole .feed .transfers))
+    left-paths = g .rows-held ∙ ap (λ (y : Got). withBytes p₀ 0 (flatTransfers (y .feed .transfers))) whole-is
+
+    left-stops : Booked first second (pathsLeft room cut whole) s₀ s (whole .feed .stops)
+    unfolding pathsLeft
+    left-stops =
+        let a : at .stops ≡ length (g .feed .stops) = booked-count (g .held) in
+        rw (← whole-is, ← a, ← g .cut-is) (g .held)
+
+    left : TransfersLeft room cut first second whole p₀ s₀ p s
+    left = record { paths-left = left-paths; stops-left = left-stops }
+
+  -- the lines are at their end
+  module _ (h : length second ≤ i) where
+    end-here : transfersFrom c room (at .transfers + 2) (lines (drop i second)) (g .feed) ≡ record { feed = g .feed; end = done }
+    unfolding transfersFrom
+    end-here = rw (drop-of-length-le second h, lines-none)
+
+    pub done-told : {y : TransfersTold} → y ≡ pathsToldAt at Done → y ≡ transfersTold whole
+    unfolding endingOf
+    done-told k = told done end-here k
+
+    pub done-left : TransfersLeft room cut first second whole p₀ s₀ p s
+    done-left = left done end-here
+
+  -- a line
+  module _ (h : i < length second) {r : PathsLine} (k : PathLine c second i r) where
+    text : List ℕ
+    text = trimmed (lineOf (drop i second))
+
+    next : lines (drop i second) ≡ text ∷ lines (drop (r .next) second)
+    unfolding text
+    next = lines-step (drop i second) (omega (arith, length-drop i second)) ∙ rw (k .behind)
+
+    pub line-fits : at .transfers + 2 ≤ 4_294_967_295
+    line-fits = omega (arith, g .lines-passed, g .short)
+
+    module _ (w : r .values ≡ Wrong) where
+      bad-here : transfersFrom c room (at .transfers + 2) (lines (drop i second)) (g .feed)
+          ≡ record { feed = g .feed; end = badTransfers (at .transfers + 2) }
+      unfolding transferRead text
+      bad-here =
+          let q : transferLine c text ≡ none = sym (k .said) ∙ ap (transferRead second) w in
+          rw next (from-bad c room (at .transfers + 2) text (lines (drop (r .next) second)) (g .feed) q)
+
+      pub bad-told : {y : TransfersTold} → y ≡ pathsToldAt at (Bad (at .transfers + 2)) → y ≡ transfersTold whole
+      unfolding endingOf
+      bad-told f = told (badTransfers (at .transfers + 2)) bad-here f
+
+      pub bad-left : TransfersLeft room cut first second whole p₀ s₀ p s
+      bad-left = left (badTransfers (at .transfers + 2)) bad-here
+
+    module _ {v : TransferSpans} (w : r .values ≡ Values v) where
+      q : transferLine c text ≡ some (transferAt second v)
+      unfolding transferRead text
+      q = sym (k .said) ∙ ap (transferRead second) w
+
+      flat-long : length (flatTransfers (g .feed .transfers)) ≡ 4 * at .transfers
+      flat-long = flat-transfers-length (g .feed .transfers) ∙ ap (λ (n : ℕ). 4 * n) (g .counted)
+
+      long : length p ≡ length p₀
+      long =
+          let few-rows = g .rows-few in
+          let room-rows = g .rows-room in
+          ap length (g .rows-held) ∙ put-length p₀ 0 (flatTransfers (g .feed .transfers)) (omega (arith, flat-long))
+
+      pub takeable : PathTakeable first second room at v p s
+      takeable =
+          let o : TransferSpanned second (Values v) = rw w at (k .spanned) in
+          record {
+            book = g .held .book;
+            near-text = o .0;
+            far-text = o .1;
+            short = g .short;
+            turned = g .turned;
+            rows = omega (arith, long, g .rows-room);
+            row-next = omega (arith, line-fits);
+          }
+
+      right : Plans room (transferAt second v) (g .feed) (takeTransfer room (transferAt second v) (g .feed)) (pathIn first second room at v s)
+      unfolding transferAt pathIn
+      right =
+          rw (g .held .texts, ← g .counted)
+          (plan-right room (transferAt second v) (g .feed) (omega (arith, booked-count (g .held), g .held .book .few)))
+
+      -- a row that is taken
+      module _ (from to : ℕ) {p′ s′ : List ℕ} (n : takeTransfer room (transferAt second v) (g .feed) ≡ some (withTransfer (g .feed) (transferAt second v) from to))
+          (fit : Fits room (namesIn first second (pathShelf room at) s) (at .transfers) (Enter from to))
+          (l : PathLeftBy first second room at v (Enter from to) p s p′ s′) where
+        row : TransferRow
+        row = record { from = from; to = to; kind = v .kind; span = v .span }
+
+        words : List ℕ
+        words = from ∷ to ∷ v .kind ∷ v .span ∷ []
+
+        grown : at .stops ≤ seenAfter (seenAfter (at .stops) from) to
+        grown = omega (arith, seen-least (at .stops) from, seen-least (seenAfter (at .stops) from) to)
+
+        rows-on : p′ ≡ withBytes p₀ 0 (flatTransfers (g .feed .transfers ++ (row ∷ [])))
+        unfolding row
+        rows-on =
+            let few-rows = g .rows-few in
+            let room-rows = g .rows-room in
+            let place : 4 * at .transfers ≡ 0 + length (flatTransfers (g .feed .transfers)) = omega (arith, flat-long) in
+            rw (flat-transfers-append (g .feed .transfers) (row ∷ []), row-words row)
+            (put-then p₀ 0 (flatTransfers (g .feed .transfers)) (from ∷ to ∷ v .kind ∷ v .span ∷ []) (omega (arith, flat-long)) (g .rows-held)
+            (l .0 ∙ ap (λ (m : ℕ). withBytes p m (from ∷ to ∷ v .kind ∷ v .span ∷ [])) place))
+
+        row-on : Pacing first second c room cut whole p₀ s₀ (r .next) (afterPath at (record { from = from; to = to; line = v })) p′ s′
+        unfolding afterPath withTransfer transferAt row
+        row-on = record {
+          feed = withTransfer (g .feed) (transferAt second v) from to;
+          rest =
+              (let line : at .transfers + 1 + 2 ≡ suc (at .transfers + 2) = omega arith in
+              rw line
+              (sym (from-kept c room (at .transfers + 2) text (lines (drop (r .next) second)) (g .feed) (transferAt second v) q
+              (withTransfer (g .feed) (transferAt second v) from to) n)
+              ∙ ap (λ (ls : List (List ℕ)). transfersFrom c room (at .transfers + 2) ls (g .feed)) (sym next)
+              ∙ g .rest));
+          held = booked-on (g .held) (rw (g .held .texts) at (l .1)) grown;
+          rows-held = rows-on;
+          counted = omega (arith, length-append (g .feed .transfers) (row ∷ []), g .counted);
+          rows-few = omega (arith, fit .4);
+          rows-room = g .rows-room;
+          turned = omega (arith, g .turned, grown);
+          cut-is = g .cut-is;
+          inside = k .inside;
+          lines-passed = omega (arith, k .further, g .lines-passed);
+          short = g .short;
+        }
+
+      -- by the plan
+      full-by : (d : PathPlan) {y : PathTook} → Plans room (transferAt second v) (g .feed) (takeTransfer room (transferAt second v) (g .feed)) d
+          → y ≡ pathTookBy at v d → y ≡ NoRow
+          → transfersFrom c room (at .transfers + 2) (lines (drop i second)) (g .feed) ≡ record { feed = g .feed; end = full }
+      unfolding pathTookBy
+      full-by (Enter from to) n e f = let z : _≡_ {A = ℕ} 0 1 = cc in absurd (omega arith)
+      full-by Full n e f = rw next (from-full c room (at .transfers + 2) text (lines (drop (r .next) second)) (g .feed) (transferAt second v) q n)
+
+      module _ {y : PathTook} {p′ s′ : List ℕ} (t : PathTakes first second room at v y p s p′ s′) where
+        full-here : y ≡ NoRow → transfersFrom c room (at .transfers + 2) (lines (drop i second)) (g .feed) ≡ record { feed = g .feed; end = full }
+        full-here f = full-by (pathIn first second room at v s) right (t .said) f
+
+        pub full-told : y ≡ NoRow → {z : TransfersTold} → z ≡ pathsToldAt at NoRoom → z ≡ transfersTold whole
+        unfolding endingOf
+        full-told f e = told full (full-here f) e
+
+        pub full-left : y ≡ NoRow → TransfersLeft room cut first second whole p₀ s₀ p′ s′
+        unfolding pathTookBy
+        full-left f =
+            let u : (p′ ≡ p) × (s′ ≡ s) = kept-by (pathIn first second room at v s) (t .said) f (t .left) in
+            rw (u .0, u .1) (left full (full-here f))
+          where
+            kept-by : (d : PathPlan) → y ≡ pathTookBy at v d → y ≡ NoRow → PathLeftBy first second room at v d p s p′ s′ → (p′ ≡ p) × (s′ ≡ s)
+            kept-by (Enter from to) e f l = let z : _≡_ {A = ℕ} 0 1 = cc in absurd (omega arith)
+            kept-by Full e f l = l
+
+        pub pacing-on : (at′ : PathsReached) → y ≡ Kept at′ → Pacing first second c room cut whole p₀ s₀ (r .next) at′ p′ s′
+        unfolding pathIn pathTookBy
+        pacing-on at′ f =
+            on-by at′ (pathIn first second room at v s) right
+            (plan-fits room (namesIn first second (pathShelf room at) s) (at .transfers) (textAt second (v .from)) (textAt second (v .to)))
+            (t .said) f (t .left)
+          where
+            on-by : (at′ : PathsReached) (d : PathPlan) → Plans room (transferAt second v) (g .feed) (takeTransfer room (transferAt second v) (g .feed)) d
+                → Fits room (namesIn first second (pathShelf room at) s) (at .transfers) d → y ≡ pathTookBy at v d → y ≡ Kept at′
+                → PathLeftBy first second room at v d p s p′ s′ → Pacing first second c room cut whole p₀ s₀ (r .next) at′ p′ s′
+            on-by at′ (Enter from to) n w e f l =
+                let z : at′ ≡ afterPath at (record { from = from; to = to; line = v }) = cc in
+                rw z (row-on from to n w l)
+            on-by at′ Full n w e f l = let z : _≡_ {A = ℕ} 0 1 = cc in absurd (omega arith)
