@@ -1,0 +1,2 @@
+-- What the writers of rows share.
+pub mod Written

@@ -1,0 +1,2 @@
+-- What the writer of stop times answers.
+pub mod WrittenTimes

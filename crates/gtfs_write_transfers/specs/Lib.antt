@@ -1,0 +1,2 @@
+-- What the writer of transfers answers.
+pub mod WrittenTransfers
