@@ -1,0 +1,2 @@
+-- The definitions that the contracts of the feed's C face cite.
+pub mod FeedFace

@@ -1,0 +1,3 @@
+-- What the promises of request 1 are stated with.
+pub mod Answers
+pub mod Tables
