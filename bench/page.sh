@@ -1,12 +1,13 @@
 #!/bin/sh
-# Measures anew and writes the tables of search.sh between their marks in docs/BENCHMARKS.md. A table that was not made stays as it is, and so do
-# those of other processors.
+# Measures anew and writes the tables of search.sh and gtfs.sh between their marks in docs/BENCHMARKS.md. A table that was not made stays as it
+# is, and so do those of other processors.
 set -eu
 folder=$(dirname "$0")
 page=$folder/../docs/BENCHMARKS.md
 made=$(mktemp)
 trap 'rm -f "$made"' EXIT
 "$folder/search.sh" > "$made"
+"$folder/gtfs.sh" >> "$made"
 new=$(awk -v made="$made" '
     BEGIN {
         while ((getline line < made) > 0) {

@@ -1,10 +1,10 @@
-//! Finds the archive of the proved library and links it.
+//! Finds the archives of the proved library, the search and the feed reader, and links them.
 use std::path::{Path, PathBuf};
 use std::{env, process};
 
-const ARCHIVE: &str = "libkiosk_c.a";
+const LIBRARIES: [&str; 2] = ["kiosk_c", "gtfs_c"];
 
-/// Where the archive is by itself: `rt staticlib` writes one for x86-64, `test.sh` makes one for any other processor.
+/// Where the archives are by themselves: `rt staticlib` writes them for x86-64, `library.sh` makes them for any processor.
 fn usual_folder() -> PathBuf {
     let variable = |name| env::var(name).expect("cargo sets it");
     let made = match variable("CARGO_CFG_TARGET_ARCH").as_str() {
@@ -17,15 +17,17 @@ fn usual_folder() -> PathBuf {
 fn main() {
     let named = env::var_os("KIOSK_LIB_DIR").filter(|name| !name.is_empty());
     let folder = named.map_or_else(usual_folder, PathBuf::from);
-    let archive = folder.join(ARCHIVE);
     println!("cargo:rerun-if-env-changed=KIOSK_LIB_DIR");
-    println!("cargo:rerun-if-changed={}", archive.display());
-    if !archive.is_file() {
-        // said here, since the linker's own words name neither the variable nor the script
-        eprintln!("there is no {}", archive.display());
-        eprintln!("make it with test.sh, or set KIOSK_LIB_DIR to the full path of a folder with {ARCHIVE}");
-        process::exit(1);
-    }
     println!("cargo:rustc-link-search=native={}", folder.display());
-    println!("cargo:rustc-link-lib=static=kiosk_c");
+    for library in LIBRARIES {
+        let archive = folder.join(format!("lib{library}.a"));
+        println!("cargo:rerun-if-changed={}", archive.display());
+        if !archive.is_file() {
+            // said here, since the linker's own words name neither the variable nor the script
+            eprintln!("there is no {}", archive.display());
+            eprintln!("make it with library.sh, or set KIOSK_LIB_DIR to the full path of a folder with libkiosk_c.a and libgtfs_c.a");
+            process::exit(1);
+        }
+        println!("cargo:rustc-link-lib=static={library}");
+    }
 }

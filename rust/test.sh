@@ -1,7 +1,7 @@
 #!/bin/sh
-# Builds the library for this machine and tests it from Rust and from C: the crate's tests, the C example of README.md, kiosk.h
-# (tests/face.sh), then the example that asks in tables of any size. Where KIOSK_LIB_DIR names a folder with libkiosk_c.a, that one is tested and
-# nothing is built.
+# Builds the library for this machine and tests it from Rust and from C: the crate's tests, the C example of README.md, kiosk.h and
+# kiosk_gtfs.h (tests/face.sh), then the examples that ask in tables of any size and in a feed. Where KIOSK_LIB_DIR names a folder with
+# libkiosk_c.a and libgtfs_c.a, those are tested and nothing is built.
 set -eu
 lib=$("$(dirname "$0")/library.sh")
 cd "$(dirname "$0")/.."
@@ -17,13 +17,13 @@ echo "the C example says: $said"
 KIOSK_LIB_DIR=$lib tests/face.sh
 
 # the example that asks in tables of any size: N's journey, one over 4,096 stops, and what is refused
-ask=$out/debug/examples/ask
+by=ask
 asked() { # STATUS LINES LAST ARG..
     status=$1 lines=$2 last=$3
     shift 3
-    "$ask" "$@" > "$out/asked" 2>&1 && was=0 || was=$?
+    "$out/debug/examples/$by" "$@" > "$out/asked" 2>&1 && was=0 || was=$?
     if [ $was -ne $status ] || [ "$(wc -l < "$out/asked")" -ne "$lines" ] || [ "$(tail -n 1 "$out/asked")" != "$last" ]; then
-        echo "ask $*: status $was, and it said:"
+        echo "$by $*: status $was, and it said:"
         head -n 5 "$out/asked"
         exit 1
     fi
@@ -35,3 +35,17 @@ asked 1 1 "7: a stop or area that doesn't exist" target/face/N.net 0 9 depart 50
 asked 1 1 'examples/N.txt: # is no word of tables' examples/N.txt 0 4 depart 50
 asked 2 2 "$(sed -n 's/^const USAGE: &str = "\(.*\)";$/\1/p' rust/examples/ask.rs)" target/face/N.net 0 4 leave 50
 echo "the example asks as it should in tables of 5, 8 and 4,096 stops"
+
+# the example that asks in a feed
+by=gtfs
+asked 0 3 'ride tram-1 from Platform "A" at 8:10:00 to Hill at 8:20:00' examples/feed 'Harbour, east' Hill depart 7:50:00
+asked 0 2 'transfer from School at 8:41:00 to Pier at 8:42:40' examples/feed 'Harbour, east' Pier depart 8:26:00
+asked 0 3 'ride tram-2 from Platform "A" at 8:40:00 to Hill at 8:50:00' examples/feed 'Harbour, east' Hill arrive 8:52:00
+asked 1 1 '10: no chosen stop' examples/feed 'Harbour, east' Hill depart 8:41:00
+asked 1 1 'examples/feed: there is no stop harbour' examples/feed harbour Hill depart 7:50:00
+asked 2 2 "$(sed -n 's/^const USAGE: &str = "\(.*\)";$/\1/p' rust/examples/gtfs.rs)" examples/feed Market Hill depart 7:5
+mkdir -p "$out/feed"
+sed 's/8:20:00/8:2:00/' examples/feed/stop_times.txt > "$out/feed/stop_times.txt"
+cp examples/feed/transfers.txt "$out/feed"
+asked 1 1 "$out/feed: 14: stop_times.txt, line 12: a bad line" "$out/feed" Market Hill depart 7:50:00
+echo "the example asks as it should in a feed"

@@ -1,11 +1,11 @@
-//! The functions of `kiosk.h`, each behind a safe one. All that is unsafe in this crate is here.
+//! The functions of `kiosk.h` and `kiosk_gtfs.h`, each behind a safe one. All that is unsafe in this crate is here.
 //!
 //! [`Checked`] can be had from [`Checked::new`] alone, so no code outside this file can search words that were not checked.
 #![allow(unsafe_code)]
 
 use crate::names::{BAD_LEG, FOUND};
 
-// As in crates/kiosk_c/include/kiosk.h, with which tests/kiosk/header.rs compares it.
+// As in crates/kiosk_c/include/kiosk.h and crates/gtfs_c/include/kiosk_gtfs.h, with which tests/kiosk/header.rs compares it.
 extern "C" {
     fn kiosk_check(tables: *const u32, tables_len: usize) -> u32;
 
@@ -37,6 +37,42 @@ extern "C" {
     fn kiosk_read(journey: *const u8, journey_len: usize, told: *mut u64, told_len: usize) -> u32;
 
     fn kiosk_leg(journey: *const u8, journey_len: usize, at: usize, leg: *mut u32, leg_len: usize) -> u32;
+
+    fn kiosk_gtfs_read(
+        stop_times: *const u8,
+        stop_times_len: usize,
+        transfers: *const u8,
+        transfers_len: usize,
+        times: *mut u32,
+        times_len: usize,
+        paths: *mut u32,
+        paths_len: usize,
+        stops: *mut u32,
+        stops_len: usize,
+        trips: *mut u32,
+        trips_len: usize,
+        told: *mut u32,
+        told_len: usize,
+    ) -> u32;
+
+    fn kiosk_gtfs_write_times(
+        times: *const u32,
+        times_len: usize,
+        out: *mut u8,
+        out_len: usize,
+        told: *mut u32,
+        told_len: usize,
+    ) -> u32;
+
+    fn kiosk_gtfs_write_transfers(
+        paths: *const u32,
+        paths_len: usize,
+        stops: u32,
+        out: *mut u8,
+        out_len: usize,
+        told: *mut u32,
+        told_len: usize,
+    ) -> u32;
 }
 
 /// The lengths that tables ask of a workspace.
@@ -151,7 +187,95 @@ pub(crate) fn read_journey(bytes: &[u8]) -> Result<usize, usize> {
 /// The six words of the leg that starts at an offset, and how many bytes it takes; None where there is no whole leg.
 pub(crate) fn read_leg(bytes: &[u8], at: usize) -> Option<([u32; 6], usize)> {
     let mut leg = [0; 6];
-    // SAFETY: each pointer goes with the length of its slice; the bytes are only read, and the words of `leg` are ours. Any offset may be asked.
+    // SAFETY: each pointer goes with the length of its slice; the bytes are only read, and the words of `leg` are ours. Any offset may be
+    // asked.
     let size = unsafe { kiosk_leg(bytes.as_ptr(), bytes.len(), at, leg.as_mut_ptr(), leg.len()) };
     (size > BAD_LEG).then_some((leg, size as usize))
+}
+
+/// What a reading of a feed is lent: two tables of rows and two books of ids.
+pub(crate) struct FeedRoom<'r> {
+    pub(crate) times: &'r mut [u32],
+    pub(crate) paths: &'r mut [u32],
+    pub(crate) stops: &'r mut [u32],
+    pub(crate) trips: &'r mut [u32],
+}
+
+/// What is told of a reading.
+#[derive(Clone, Copy)]
+pub(crate) struct FeedTold {
+    pub(crate) number: u32,
+    pub(crate) line: u32,
+    pub(crate) file: u32,
+    pub(crate) stops: usize,
+    pub(crate) split: usize,
+    pub(crate) trips: usize,
+    pub(crate) times: usize,
+    pub(crate) transfers: usize,
+}
+
+/// Reads both files of a feed. The room may be of any length.
+pub(crate) fn read_feed(stop_times: &[u8], transfers: &[u8], room: FeedRoom<'_>) -> FeedTold {
+    let mut told = [0; 8];
+    // SAFETY: each pointer goes with the length of its slice. The files are only read. What is written to is borrowed by `&mut`, so it is
+    // nobody else's and no two of the slices overlap. Any bytes may be read. The library keeps no pointer.
+    let number = unsafe {
+        kiosk_gtfs_read(
+            stop_times.as_ptr(),
+            stop_times.len(),
+            transfers.as_ptr(),
+            transfers.len(),
+            room.times.as_mut_ptr(),
+            room.times.len(),
+            room.paths.as_mut_ptr(),
+            room.paths.len(),
+            room.stops.as_mut_ptr(),
+            room.stops.len(),
+            room.trips.as_mut_ptr(),
+            room.trips.len(),
+            told.as_mut_ptr(),
+            told.len(),
+        )
+    };
+    let [first, line, file, counts @ ..] = told;
+    debug_assert_eq!(number, first, "the number is the first word that is told too");
+    let [stops, split, trips, times, transfers] = counts.map(|count| count as usize);
+    FeedTold { number, line, file, stops, split, trips, times, transfers }
+}
+
+/// How many bytes rows of times were written as, or the number of the refusal. They may be any words.
+pub(crate) fn write_times(times: &[u32], out: &mut [u8]) -> Result<usize, u32> {
+    let mut told = [0; 2];
+    // SAFETY: each pointer goes with the length of its slice; the rows are only read, the bytes are borrowed by `&mut`, the words of
+    // `told` are ours.
+    let number = unsafe {
+        kiosk_gtfs_write_times(times.as_ptr(), times.len(), out.as_mut_ptr(), out.len(), told.as_mut_ptr(), told.len())
+    };
+    if number == FOUND {
+        Ok(told[1] as usize)
+    } else {
+        Err(number)
+    }
+}
+
+/// The same of rows of transfers, behind so many stops.
+pub(crate) fn write_transfers(paths: &[u32], stops: u32, out: &mut [u8]) -> Result<usize, u32> {
+    let mut told = [0; 2];
+    // SAFETY: as with the times.
+    let number = unsafe {
+        kiosk_gtfs_write_transfers(
+            paths.as_ptr(),
+            paths.len(),
+            stops,
+            out.as_mut_ptr(),
+            out.len(),
+            told.as_mut_ptr(),
+            told.len(),
+        )
+    };
+    if number == FOUND {
+        Ok(told[1] as usize)
+    } else {
+        Err(number)
+    }
 }

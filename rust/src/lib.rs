@@ -3,7 +3,9 @@
 
 mod answer;
 mod ffi;
+pub mod gtfs;
 mod journey;
+mod loader;
 pub mod names;
 mod numbers;
 mod query;

@@ -23,6 +23,8 @@ pub(crate) fn words_of(number: u32) -> &'static str {
         11 => "a chosen stop but no leg",
         12 => "journey longer than its buffer",
         13 => "journey bytes: unknown kind or cut body",
+        14 => "a bad line",
+        15 => "a table that is full",
         _ => "no such number",
     }
 }

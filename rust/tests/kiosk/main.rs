@@ -1,6 +1,7 @@
-//! The crate against document 01: its answers, its refusals, its journey bytes, and the Rust's kept answers.
+//! The crate against document 01: its answers, its refusals, its journey bytes, the Rust's kept answers, and feeds.
 mod answers;
 mod ask;
+mod gtfs;
 mod header;
 mod journeys;
 mod kept;
