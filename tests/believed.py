@@ -10,8 +10,23 @@ SAYS = {
     "journey": "journey bytes as the code's own reader gives them",
     "kiosk_c": "what the C face answers and leaves",
     "kiosk_words": "a query, an answer and a leg as words",
+    "columns": "the five fields that are wanted of a line, and where a column stands in a header",
+    "csv": "lines and fields of a file",
+    "feed": "document 02's request 1: what is read of the two files, why a line is refused, what is written",
+    "gtfs_c": "what the feed's C face answers and leaves",
+    "gtfs_headers": "a header as the code answers with it",
+    "gtfs_lines": "a line's values as the code answers with them",
+    "gtfs_rows": "what becomes of a row of stop_times.txt",
+    "gtfs_paths": "what becomes of a row of transfers.txt",
+    "gtfs_promises": "what the promises of request 1 are stated with",
+    "gtfs_read": "the contract of the reader",
+    "gtfs_write": "how a writer of rows answers",
+    "gtfs_write_times": "what the writer of stop times answers",
+    "gtfs_write_transfers": "what the writer of transfers answers",
     "marks": "64 stops to a word",
     "model": "document 01's search, answers, bytes and journeys",
+    "names": "names by their numbers, and the book in which their places stand",
+    "numbers": "decimal digits, and the moments that a clock shows",
     "raptor": "the contract of `solve`",
     "repository": "the tables: their layout, the network that they hold, the rules that they keep",
     "check_tables": "the numbers 1 to 5",
@@ -111,9 +126,9 @@ def lines(path):
     return len(text), len([l for l in text if l and not l.startswith(("--", "use ", "pub use "))])
 
 
-def counted(statements):
-    """The table: folder, files, lines, lines that define, what it says."""
-    files = closure(statements)
+def counted(statements, known=()):
+    """The table: folder, files, lines, lines that define, what it says; without what the statements that are known speak of."""
+    files = closure(statements) - closure(known)
     rows, all_lines, all_own = [], 0, 0
     for crate in sorted({f.split("/")[0] for f in files if isinstance(f, str) and "/specs/" in f}):
         own = sorted(f for f in files if isinstance(f, str) and f.startswith(f"{crate}/specs/"))
@@ -122,9 +137,10 @@ def counted(statements):
         all_lines, all_own = all_lines + total, all_own + defines
         listed = ", ".join(f"[{os.path.basename(f)[:-5]}](../crates/{f})" for f in own)
         rows.append(f"| `crates/{crate}/specs` | {listed} | {total:,} | {defines:,} | {SAYS.get(crate, '?')} |")
-    rows.append(f"| together | {len([f for f in files if isinstance(f, str) and '/specs/' in f])} files | {all_lines:,} | {all_own:,} | |")
+    rows.append(f"| {'together' if not known else 'these together'} | {len([f for f in files if isinstance(f, str) and '/specs/' in f])} files | {all_lines:,} | {all_own:,} | |")
     head = "| folder | files | lines | that define | what it says |\n|---|---|---|---|---|\n"
     under = under_proofs(statements)
+    under = {f: n - under_proofs(known).get(f, set()) for f, n in under.items() if n - under_proofs(known).get(f, set())}
     tail = "Networks, questions and shorthands that statements use stand under `proofs/`: "
     tail += "; ".join(f"`{f}` " + ", ".join(f"`{n}`" for n in sorted(under[f])) for f in sorted(under)) + ".\n\n" if under else ""
     kinds = {}

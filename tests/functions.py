@@ -30,8 +30,32 @@ OUTSIDE = {
 }
 # What states less than it could, and why that is borne: nothing.
 LESS = {}
-# Where two results that meet the statement may differ, in what, and why that is borne: nowhere.
-OPEN = {}
+# Where two results that meet the statement may differ, in what, and why that is borne: in where a text of a feed stands.
+TEXT = "where a text stands: its bytes are said, and that they stand there, not which of its places is told"
+BOOK = "where an id's text stands in its file: the ids are said, each at its number, and that its bytes stand at the place told; all else is fixed"
+OPEN = {
+    "csv::field": TEXT,
+    "columns::pick": TEXT,
+    "gtfs_lines::time_line": TEXT,
+    "gtfs_lines::transfer_line": TEXT,
+    "names::add": BOOK,
+    "gtfs_rows::books::name": BOOK,
+    "gtfs_rows::times::enter": BOOK,
+    "gtfs_rows::times::take": BOOK,
+    "gtfs_times::read_times": BOOK,
+    "gtfs_paths::enter": BOOK,
+    "gtfs_paths::take": BOOK,
+    "gtfs_transfers::read_transfers": BOOK,
+    "gtfs_read::read": BOOK,
+    "gtfs_c::kiosk_gtfs_read": BOOK,
+}
+# What a law of its own fixes: two results that meet the function's contract are equal by it.
+OWN = {
+    "csv::line_end": ("csv/proofs/Parts.antt", "part-ends"),
+    "csv::text_end": ("csv/proofs/Parts.antt", "part-ends"),
+    "gtfs_headers::start": ("gtfs_headers/proofs/Marks.antt", "start-ends"),
+    "names::clear": ("names/proofs/Clearing.antt", "empty-unique"),
+}
 # What fixes the words and marks or the whole where a clause is no equation: a word of the clause, and the law that two things it holds of are equal.
 LAWS = {
     "Solved": ("raptor/proofs/Unique.antt", "solved-unique"),
@@ -168,6 +192,8 @@ def fixed_by(f, what):
 def fixed(f):
     """By what each thing is fixed. What rests on a thing that is not fixed, or on itself by way of another, fixes nothing."""
     by = {what: fixed_by(f, what) for what in ([""] if f.result else []) + f.lent()}
+    if f.where in OWN and source(*OWN[f.where]):
+        by = {what: (f.where, set()) if how == "open" else (how, rests) for what, (how, rests) in by.items()}
     sure = set()
     while True:
         more = {what for what, (how, rests) in by.items() if how not in ("open", "unsaid") and what not in sure and rests <= sure}
@@ -235,11 +261,13 @@ for crate in FILES:
                 complain(f"{f.path}: {f.where} does not say {', '.join(unsaid)}")
             elif loose:
                 complain(f"{f.path}: {f.where} leaves open {', '.join(loose)}")
-        laws = {f"`{LAWS[b][1]}`" for b in by.values() if b in LAWS}
+        laws = {f"`{(LAWS | OWN)[b][1]}`" for b in by.values() if b in LAWS or b in OWN}
+        if f.where in OWN and f.where not in by.values():
+            complain(f"{f.path}: {f.where} is listed in OWN, and its law is not there or not needed")
         reason = OUTSIDE.get(f.where) or LESS.get(f.where) or (f.where in OPEN and "open: " + OPEN[f.where]) or ""
         unique = "; ".join((["equation"] if EQUATION in by.values() else []) + sorted(laws) + ([reason] if reason else []))
         rows.append(f"| `{f.where}` | [`{f.path[len('crates/'):]}`](../{f.path}) | {len(f.asks) or ''} | {stated(f) or 'nothing'} | {unique} |")
-for name in sorted((set(OUTSIDE) | set(LESS) | set(OPEN)) - met):
+for name in sorted((set(OUTSIDE) | set(LESS) | set(OPEN) | set(OWN)) - met):
     complain(f"tests/functions.py: there is no function {name}")
 
 page = """# Every public function
@@ -258,7 +286,8 @@ The last column: *equation*, where the result and each slice that may be written
 words and marks hold and that they are `Tidy` or `Usable` (nothing stands beside that state): two tidy workspaces of one state are equal word for word.
 `solved-unique`, `ran-unique`
 (`raptor/proofs/Unique.antt`), `faced-unique` (`kiosk_c/proofs/Unique.antt`) and `asked-unique` (`asking/proofs/Unique.antt`), where it is the record
-`Solved`, `Ran`, `Faced` or `Tells`. What prints or reads, states less, or is left open stands there with the reason; `tests/functions.py` has the lists,
+`Solved`, `Ran`, `Faced` or `Tells`. `part-ends` (`csv/proofs/Parts.antt`), `start-ends` (`gtfs_headers/proofs/Marks.antt`) and `empty-unique`
+(`names/proofs/Clearing.antt`), for one or two functions each. What prints or reads, states less, or is left open stands there with the reason; `tests/functions.py` has the lists,
 function by function, and refuses a name that stands there without need.
 
 | function | where | asks | states | unique by |

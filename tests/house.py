@@ -12,7 +12,10 @@ WIDEST, MOST = 140, 7
 DECISIONS, PROVING = "docs/DECISIONS.md", "docs/PROVING.md"
 # A name that the definitions of some crates share: which (`one two`), and why they may. Any other crate's is refused all the same, and so is a file that
 # cites two of them.
-TWICE = {"Chosen": ("model raptor_reply", "the routes that are chosen, and the stop that is: document 01 has one word for both")}
+TWICE = {
+    "Chosen": ("model raptor_reply", "the routes that are chosen, and the stop that is: document 01 has one word for both"),
+    "roomOf": ("raptor gtfs_read", "the lengths that tables ask of a workspace, and the rows that lent tables have for a feed: the search and the feed never meet"),
+}
 # A law or a definition that nothing reaches, and why it stays.
 ALONE = {}
 NAME = r"[^\s(){}⌜⌝«»,;:\[\]λ.]+"
@@ -207,7 +210,7 @@ for name in sorted(n for n in ALONE if all(k in reached for k in LAW if k[1] == 
 
 # ==== the drawing of the crates
 # The columns of the house, each with the comments of crates.txt under which its crates stand.
-COLUMNS = [("the ground", ("",)), ("the tables", ("the tables",)), ("the search", ("the search",)), ("its faces", ("the hypotheses", "what C")), ("programs", ("programs", "what a person"))]
+COLUMNS = [("the ground", ("",)), ("feeds", ("what operators",)), ("the tables", ("the tables",)), ("the search", ("the search",)), ("its faces", ("the hypotheses", "what C")), ("programs", ("programs", "what a person"))]
 
 
 def floors():

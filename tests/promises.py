@@ -11,12 +11,17 @@ from reading import HERE, asked_and_said, crates, edits, source, text_of, there
 
 PAGE, COPIES, LIST = "docs/PROMISES.md", "docs/STATEMENTS.md", "tests/sentences.txt"
 # The sum of the sentences that are others' (tests/sentences.txt): to leave one out, one has to change this line as well. `tests/promises.py sum` tells it.
-SUM = "ba136ed764470bc4"
-# Document 01, where it is at hand, and the parts of it of which no sentence may be left out: from .. up to ..
-DOCUMENT = os.path.join(HERE, "../shared/docs/01-scope.md")
-WHOLE = [("The workspace is untouched on", "number it is testing."), ("The equality of demand 2 covers", "with one span."), ("Each public function states", "run and compared.")]
+SUM = "478daa2c878c0de8"
+# Documents 01 and 02, where they are at hand, and the parts of them of which no sentence may be left out: from .. up to ..
+DOCUMENTS = {"document 01": "01-scope.md", "document 02": "02-change-requests.md"}
+WHOLE = {
+    "document 01": [("The workspace is untouched on", "number it is testing."), ("The equality of demand 2 covers", "with one span."), ("Each public function states", "run and compared.")],
+    "document 02": [("Two operators send us", "after 13.")],
+}
+# The sections of the three demands, and those of the requests: what their statements speak of must be believed.
+DEMANDS, REQUESTS = (1, 2, 3), (9,)
 # What a theorem may suppose of tables, orders and queries: where one that is cited does, a witness is wanted.
-SUPPOSED = ["Accepted", "Laid", "Listed", "Timed", "Ordered", "Measured", "Searchable", "Sound", "SoundPlaces", "Narrow", "Asked", "Fair", "BothWays", "Same", "SamePlaces", "Alike"]
+SUPPOSED = ["Accepted", "Laid", "Listed", "Timed", "Ordered", "Measured", "Searchable", "Sound", "SoundPlaces", "Narrow", "Asked", "Fair", "BothWays", "Same", "SamePlaces", "Alike", "Orderly", "Countable", "Wider", "FullSize", "BothShort"]
 MADE = "<!-- From here on made by tests/promises.py: what the rows cite beside the above, row by row. -->"
 TOKEN = re.compile(r"\[`([^`]+)`\]\(([^)]*)\)|`([^`]+)`")
 BLOCK = re.compile(r'^<a id="[^"]*"></a>\[`([^`]+)`\]\([^)]*\) `([^`]+)`\n\n```text\n(?:(?!```).*\n)*```$', re.M)
@@ -100,9 +105,9 @@ def rows_of(page):
             yield cells[0], cells[1:], line
 
 
-def promised(page):
-    """The statements that the rows of the three demands cite."""
-    return tuple((p, n) for number, cells, line in rows_of(page) if int(number.split(".")[0]) <= 3 for p, n, link in cited(cells[1]) if p)
+def promised(page, sections=DEMANDS):
+    """The statements that the rows of these sections cite."""
+    return tuple((p, n) for number, cells, line in rows_of(page) if int(number.split(".")[0]) in sections for p, n, link in cited(cells[1]) if p)
 
 
 def section(page, title):
@@ -130,7 +135,9 @@ if writing:
     supposed = section(page, "What the theorems suppose")
     page = page.replace(supposed, "\n".join(relinked(l) if l.startswith("| `") else l for l in supposed.split("\n")))
     page = re.sub(r"(<!-- counted -->\n).*?(<!-- end -->)", lambda m: m.group(1) + counted(promised(page)) + m.group(2), page, flags=re.S)
-    page = re.sub(r"(<!-- of the kit -->\n).*?(<!-- end -->)", lambda m: m.group(1) + kit(promised(page)) + m.group(2), page, flags=re.S)
+    more = lambda m: m.group(1) + counted(promised(page, REQUESTS), promised(page)) + m.group(2)
+    page = re.sub(r"(<!-- counted of the requests -->\n).*?(<!-- end -->)", more, page, flags=re.S)
+    page = re.sub(r"(<!-- of the kit -->\n).*?(<!-- end -->)", lambda m: m.group(1) + kit(promised(page, DEMANDS + REQUESTS)) + m.group(2), page, flags=re.S)
 
     def again(m):
         path, name = m.group(1), m.group(2)
@@ -253,17 +260,20 @@ if sys.argv[1:] == ["sum"]:
     print(total)
 elif total != SUM:
     complain(f"the sentences are not those that were agreed: their sum is {total}, not {SUM}", LIST)
-if os.path.isfile(DOCUMENT):
-    document = " ".join(open(DOCUMENT, encoding="utf-8").read().split())
+for which, file in DOCUMENTS.items():
+    file = os.path.join(HERE, "../shared/docs", file)
+    if not os.path.isfile(file):
+        continue
+    document = " ".join(open(file, encoding="utf-8").read().split())
     for origin, number, words in sentences:
-        if origin == "document 01" and words not in document:
-            complain(f"not document 01's words: {words}", LIST)
-    for start, end in WHOLE:
+        if origin == which and words not in document:
+            complain(f"not {which}'s words: {words}", LIST)
+    for start, end in WHOLE[which]:
         rest = document[document.index(start) : document.index(end) + len(end)]
         for origin, number, words in sorted(sentences, key=lambda s: -len(s[2])):
             rest = rest.replace(words, "")
         if re.search(r"\w", rest):
-            complain(f"left out of document 01: {' '.join(rest.split())}", LIST)
+            complain(f"left out of {which}: {' '.join(rest.split())}", LIST)
 
 # ==== what the theorems suppose
 shown = {}
@@ -303,12 +313,13 @@ for path, name in sorted({(p, n) for cells in rows.values() for p, n, link in ci
 
 # ==== what must be believed
 was = re.search(r"<!-- counted -->\n(.*?)<!-- end -->", page, re.S)
-if not was or was.group(1) != counted(promised(page)):
+more = re.search(r"<!-- counted of the requests -->\n(.*?)<!-- end -->", page, re.S)
+if not was or was.group(1) != counted(promised(page)) or not more or more.group(1) != counted(promised(page, REQUESTS), promised(page)):
     complain("what must be believed is not what is counted: tests/promises.py write")
-if was and "| ? |" in was.group(1):
+if was and more and "| ? |" in was.group(1) + more.group(1):
     complain("tests/believed.py does not say what a folder of definitions is about")
 was = re.search(r"<!-- of the kit -->\n(.*?)<!-- end -->", page, re.S)
-if not was or was.group(1) != kit(promised(page)):
+if not was or was.group(1) != kit(promised(page, DEMANDS + REQUESTS)):
     complain("what is taken from the kit is not what the definitions use: tests/promises.py write")
 
 # ==== the map of the crates in README.md

@@ -20,5 +20,8 @@ tools/fault.py "$room/town.net" >"$room/said"
 stands
 ./kiosk 1 7 depart 6:55:00 tables:"$room/town.net" >"$room/said"
 stands
-[ $lines -eq 9 ] || { echo "README.md: $lines lines were printed"; exit 1; }
+rust/library.sh >/dev/null
+(cd rust && CARGO_TARGET_DIR=../target/rust cargo run --offline --quiet --example gtfs -- ../examples/feed 'Harbour, east' Hill depart 7:50:00) >"$room/said"
+stands
+[ $lines -eq 12 ] || { echo "README.md: $lines lines were printed"; exit 1; }
 echo "README.md: its commands print what it says"

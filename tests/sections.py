@@ -87,14 +87,13 @@ def comments_out(text, mark):
 def bare(path, text):
     """Each bare number of a file: line and what stands there."""
     found = []
+    text = comments_out(text, "--" if path.endswith(".antt") else "//")
     reads = "repository" in text or "tables" in text
     if path.endswith(".antt"):
-        text = comments_out(text, "--")
         if reads:
             found += in_logic(text)
             found += [(m.start(), m[0]) for m in ROW.finditer(text) if re.search(r"\b(sec|start|rows|size)\b", line_of(text, m.start()))]
     else:
-        text = comments_out(text, "//")
         logic = re.compile(r"⌜[^⌝]*⌝")
         for m in logic.finditer(text):
             if reads:

@@ -172,12 +172,17 @@ def nets(path):
         return [[int(x) for x in line.split()[1:]] for line in text if line.startswith("net")]
 
 
+def timetables():
+    """The timetables among the examples; beside them stands a feed."""
+    return sorted(name for name in os.listdir("examples") if name.endswith(".txt"))
+
+
 def examples():
     """The examples give the words that are kept elsewhere, and --midnight adds to the moments only."""
     listed = nets("crates/checktables/stdin")
     for name, words in (("N", listed[0]), ("M", listed[1])):
         expect(ran("timetable", [f"examples/{name}.txt"])[1] == " ".join(["net", *map(str, words)]) + "\n", name, "gives other words")
-    for name in os.listdir("examples"):
+    for name in timetables():
         plain, later = ([int(x) for x in ran("timetable", [*more, f"examples/{name}"])[1].split()[1:]] for more in ([], ["--midnight", "86400"]))
         expect(number(plain) == number(later) == 0, name, "is refused")
         times = range(plain[16], plain[17])
@@ -214,7 +219,7 @@ def spoilt(rng, text):
 
 def spoil(rng, count):
     """Spoilt timetables are refused with a line, or the tables are accepted by both checks."""
-    texts, accepted = [open(os.path.join("examples", name), "rb").read() for name in sorted(os.listdir("examples"))], 0
+    texts, accepted = [open(os.path.join("examples", name), "rb").read() for name in timetables()], 0
     for _ in range(count):
         text = spoilt(rng, rng.choice(texts))
         path = file("timetable", text)
