@@ -7,28 +7,14 @@
 #include <stdio.h>
 #include <stdlib.h>
 #include <string.h>
-#include <sys/mman.h>
-#include <unistd.h>
 #include "dice.h"
 #include "face.h"
+#include "fence.h"
 #include "nasty.h"
 #include "../plain/check.h"
 #include "../plain/tables.h"
 
 enum { CALLS_EACH = 64, MOST_WORDS = 1 << 16 };
-
-/* A slice in pages of its own, between two that may not be touched. */
-typedef struct { uint8_t *low; size_t room; } pages;
-static pages fence(size_t bytes) {
-    size_t page = (size_t)sysconf(_SC_PAGESIZE), room = (bytes + page - 1) / page * page;
-    uint8_t *p = mmap(NULL, room + 2 * page, PROT_NONE, MAP_PRIVATE | MAP_ANONYMOUS, -1, 0);
-    if (p == MAP_FAILED || mprotect(p + page, room, PROT_READ | PROT_WRITE) != 0) { perror("mmap"); exit(2); }
-    return (pages){ p + page, room };
-}
-static void *slice(const pages *p, size_t bytes, int at_end) {
-    if (bytes > p->room) { fprintf(stderr, "a slice is larger than its pages\n"); exit(2); }
-    return at_end ? p->low + p->room - bytes : p->low;
-}
 
 static struct { pages tables, lent[SLICES]; } fenced;
 static unsigned long calls, given[14], wrong;

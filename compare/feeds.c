@@ -119,6 +119,24 @@ void damage_text(text *t) {
     }
 }
 
+/* ==== rows for the writers */
+
+void make_rows(uint32_t *words, uint32_t rows, int transfers, uint32_t stops) {
+    uint32_t seen = transfers ? stops : 0, trips = 0;
+    for (uint32_t i = 0; i < rows; i++) {
+        uint32_t *r = words + 4 * i;
+        if (transfers) {
+            r[0] = range(0, seen), seen += r[0] == seen;
+            r[1] = range(0, seen), seen += r[1] == seen;
+            r[2] = range(0, 5), r[3] = r[2] == 2 ? PICK(0, 1, 10, 99999, 0xFFFFFFFE) : 0xFFFFFFFF;
+        } else {
+            r[0] = trips > 0 && percent(60) ? trips - 1 : trips, trips = r[0] + 1;
+            r[1] = range(0, seen), seen += r[1] == seen;
+            r[2] = range(86400, 446399), r[3] = PICK(86400, 446399, 90000, 446398);
+        }
+    }
+}
+
 /* ==== files at a limit */
 
 size_t many_times(uint8_t *to, uint32_t rows, int trips, uint32_t stops) {

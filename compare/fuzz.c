@@ -3,19 +3,18 @@
    Each slice is a block of exactly its bytes, so that a read or write past it stops the run. Compared with plain C, to the last word and
    byte: the number of the tables, the room, the answer and everything lent, with a new workspace and with a used one; and how journey bytes
    are read. fuzz.sh builds and runs it. SEEDS=FOLDER writes the first inputs there; LIE=tables and LIE=room must stop the run. */
-#include <sanitizer/asan_interface.h>
-#include <stdio.h>
 #include <stdlib.h>
 #include <string.h>
 #include "city.h"
 #include "dice.h"
+#include "fuzzing.h"
 #include "nasty.h"
 #include "../plain/check.h"
 #include "../plain/tables.h"
 
 /* ---- an input: a head, then journey bytes of any kind, then the words of the tables, the last of which may be cut */
 
-enum { MOST_LOOSE = 1 << 12, MOST_WORDS = 1 << 14, MOST_GROWN = 1 << 20, EMPTY = -128, SEEDS = 64 };
+enum { MOST_LOOSE = 1 << 12, MOST_WORDS = 1 << 14, MOST_GROWN = 1 << 20, EMPTY = -128 };
 typedef struct {
     query q;
     uint32_t grown, more;               /* the sections that grow, a bit each, and by how many words */
@@ -26,8 +25,6 @@ typedef struct {
     uint8_t junk;                       /* what every slice is filled with before */
 } head;
 typedef struct { head h; size_t bytes; uint8_t loose[MOST_LOOSE]; uint32_t word[MOST_WORDS]; } input;
-
-static size_t least(size_t a, size_t b) { return a < b ? a : b; }
 
 /* What is missing in a short input is 0. */
 static void split(const uint8_t *data, size_t size, input *in) {
@@ -53,14 +50,6 @@ static int framed(const uint32_t *w, size_t len) {
     if (len < HEADER || w[0] != HEADER || w[SECTIONS] != len) return 0;
     for (int k = 0; k < SECTIONS; k++) if (w[k] > w[k + 1]) return 0;
     return 1;
-}
-
-/* A block of exactly so many bytes. Of an empty one malloc would let the first byte be touched. */
-static void *block(size_t bytes, int junk) {
-    void *p = malloc(bytes);
-    memset(p, junk, bytes);
-    if (bytes == 0) ASAN_POISON_MEMORY_REGION(p, 1);
-    return p;
 }
 
 /* The words of a row in each section; 0 where it is no list. The starts of a list stand right before it. */
@@ -90,10 +79,10 @@ static uint32_t *tables_of(const input *in, size_t *len) {
 
 /* ---- what is compared */
 
-static unsigned long runs, given[14];
-static void fail(const char *what, uint32_t ours, uint32_t plain) {
-    fprintf(stderr, "wrong: %s (ours %u, plain C %u)\n", what, ours, plain);
-    abort();
+static unsigned long given[14];
+void print_given(FILE *out) {
+    fprintf(out, "given");
+    for (int i = 0; i < 14; i++) fprintf(out, " %d: %lu", i, given[i]);
 }
 
 /* A leg of journey bytes, read by plain C: its size, which is above 13; 0 where no byte is left, 13 for an unknown kind or a cut body. */
@@ -159,19 +148,6 @@ static void check_search(solver *f, const uint32_t *tables, size_t len, const he
     for (int i = 0; i < SLICES; i++) free(ours.at[i]);
 }
 
-/* The counters of the proved code's edges: this file has none. libFuzzer clears them before each run. */
-extern uint8_t __start___sancov_cntrs[], __stop___sancov_cntrs[];
-enum { MOST_EDGES = 1 << 16 };
-static uint8_t seen[MOST_EDGES];
-static size_t edges(void) { return least((size_t)(__stop___sancov_cntrs - __start___sancov_cntrs), MOST_EDGES); }
-static void tell(FILE *out) {
-    size_t reached = 0;
-    for (size_t i = 0; i < edges(); i++) reached += seen[i];
-    fprintf(out, "%lu runs, %zu of %zu edges of the proved code; given", runs, reached, edges());
-    for (int i = 0; i < 14; i++) fprintf(out, " %d: %lu", i, given[i]);
-    fprintf(out, "; 0 wrong\n");         /* at a wrong one the run stops */
-}
-
 int LLVMFuzzerTestOneInput(const uint8_t *data, size_t size) {
     static input in;
     split(data, size, &in);
@@ -206,18 +182,16 @@ int LLVMFuzzerTestOneInput(const uint8_t *data, size_t size) {
     if (accepted) check_search(kiosk_solve_checked, tables, len, h, &wanted, number);
     if (memcmp(tables, copy, 4 * len) != 0) fail("the tables are written", number, number);
     if (number == 0 && check_reading(h, wanted.at[JOURNEY], answer[4]) == 13) fail("a journey is not read back", 13, 0);
-    given[number]++, given[13] += check_reading(h, in.loose, h->loose) == 13, runs++;
+    given[number]++, given[13] += check_reading(h, in.loose, h->loose) == 13;
 
     for (int i = 0; i < SLICES; i++) free(wanted.at[i]);
     free(tables), free(copy), free(room), free(space);
-    for (size_t i = 0; i < edges(); i++) seen[i] |= __start___sancov_cntrs[i] != 0;
-    if (runs % (1 << 20) == 0) tell(stderr);
+    end_run();
+    if (runs % (1 << 20) == 0) print_runs(stderr);
     return 0;
 }
 
 /* ---- how an input is changed */
-
-size_t LLVMFuzzerMutate(uint8_t *data, size_t size, size_t most);
 
 /* A new network and a query in it, and some legs. One in 16 is a city with marks of more than one word, or with routes about the limit; one
    in 64 has no stop. */
@@ -337,23 +311,16 @@ size_t LLVMFuzzerCustomMutator(uint8_t *data, size_t size, size_t most, unsigned
     return join(&in, data, most);
 }
 
-/* ---- before and after */
+/* ---- before the first run */
 
-static void write_seeds(const char *folder) {
+size_t first_input(unsigned seed, uint8_t *data, size_t most) {
     static input in;
-    static uint8_t data[sizeof in];
-    char path[4096];
-    for (unsigned i = 0; i < SEEDS; i++) {
-        draw_input(&in, i);
-        snprintf(path, sizeof path, "%s/seed-%02u", folder, i);
-        FILE *f = fopen(path, "wb");
-        size_t n = join(&in, data, sizeof data);
-        if (!f || fwrite(data, 1, n, f) != n || fclose(f) != 0) { perror(path); exit(2); }
-    }
+    draw_input(&in, seed);
+    return join(&in, data, most);
 }
 
-/* A length that is one word too long: the sanitizer must stop the proved code there, or else it does not watch it. */
-static void lie(const char *what) {
+/* A length that is one word too long. */
+void lie(const char *what) {
     static input in;
     draw_input(&in, 0);                 /* a city, whose last word is an area's stop */
     uint32_t *tables = block(in.bytes, 0), *cut = block(in.bytes - 4, 0), *room = block(8, 0);
@@ -361,15 +328,4 @@ static void lie(const char *what) {
     if (strcmp(what, "tables") == 0) kiosk_check(cut, in.bytes / 4);
     if (strcmp(what, "room") == 0) kiosk_room(tables, in.bytes / 4, room, 3);
     free(tables), free(cut), free(room);
-}
-
-static void last_line(void) { tell(stdout); }
-
-int LLVMFuzzerInitialize(int *count, char ***words) {
-    (void)count, (void)words;
-    const char *folder = getenv("SEEDS"), *what = getenv("LIE");
-    if (folder && folder[0]) write_seeds(folder);
-    if (what && what[0]) lie(what);
-    atexit(last_line);
-    return 0;
 }

@@ -17,7 +17,8 @@ clang -fsanitize=address,fuzzer -o "$out/none" "$out/none.c" 2>/dev/null || {
 SANITIZE=1 ./native.sh kiosk_c "$out/kiosk_c.o" 2>/dev/null
 rm -rf "$out/parts"
 mkdir -p "$out/parts"
-for f in fuzz city nasty dice network face ../plain/check ../plain/search; do      # without counters of their own: the proved code's are counted
+# without counters of their own: the proved code's are counted
+for f in fuzz fuzzing city nasty dice network face ../plain/check ../plain/search; do
     clang -O1 -g -fsanitize=address -c -o "$out/parts/$(basename $f).o" $f.c
 done
 clang -fsanitize=address,fuzzer -o "$out/fuzz" "$out"/parts/*.o "$out/kiosk_c.o"

@@ -38,7 +38,7 @@ fuzz)
     clang -fsanitize=address,fuzzer -o "$out/none" "$out/none.c" 2>/dev/null || {
         echo "gtfs.sh: no clang with libFuzzer and the address sanitizer (Debian's clang and libclang-rt-14-dev)"; exit 2; }
     [ -n "$lib" ] || { SANITIZE=1 ./native.sh gtfs_c "$out/gtfs_c.o" 2>/dev/null && lib=$out/gtfs_c.o; }
-    for f in gtfs_fuzz gtfs_try feeds dice ../plain/gtfs; do       # without counters of their own: the proved code's are counted
+    for f in gtfs_fuzz fuzzing gtfs_try feeds dice ../plain/gtfs; do       # without counters of their own: the proved code's are counted
         clang -O1 -g -fsanitize=address -c -o "$out/gtfs-parts/$(basename $f).o" $f.c
     done
     clang -fsanitize=address,fuzzer -o "$out/gtfs_fuzz" "$out"/gtfs-parts/*.o "$lib"

@@ -8,9 +8,9 @@
 #include <stdlib.h>
 #include <string.h>
 #include <sys/mman.h>
-#include <unistd.h>
 #include "dice.h"
 #include "feeds.h"
+#include "fence.h"
 #include "gtfs_try.h"
 #include "../crates/gtfs_c/include/kiosk_gtfs.h"
 
@@ -19,21 +19,12 @@ static uint64_t seed;
 static unsigned long wrong;
 static int at_end;
 
-/* ---- slices in pages of their own, between two that may not be touched */
-
-static struct { uint8_t *low; size_t room; } pages[SLICES];
-void *lend(int slice, size_t bytes) {
-    size_t page = (size_t)sysconf(_SC_PAGESIZE), room = (bytes / page + 1) * page;
-    if (pages[slice].room < room) {
-        uint8_t *p = mmap(NULL, room + 2 * page, PROT_NONE, MAP_PRIVATE | MAP_ANONYMOUS, -1, 0);
-        if (p == MAP_FAILED || mprotect(p + page, room, PROT_READ | PROT_WRITE) != 0) { perror("mmap"); exit(2); }
-        if (pages[slice].low) munmap(pages[slice].low - page, pages[slice].room + 2 * page);
-        pages[slice].low = p + page, pages[slice].room = room;
-    }
-    return at_end ? pages[slice].low + pages[slice].room - bytes : pages[slice].low;
+void *lend(int which, size_t bytes) {
+    static pages lent[SLICES];
+    widen(&lent[which], bytes);
+    return slice(&lent[which], bytes, at_end);
 }
 void take_back(void *p) { (void)p; }
-
 void differ(const char *what, uint32_t ours, uint32_t plain) {
     if (wrong++ < 20) printf("seed %llu: %s (ours %u, plain C %u)\n", (unsigned long long)seed, what, ours, plain);
 }
@@ -55,21 +46,10 @@ static void read_once(const text *one, const text *two) {
 
 /* Rows as a reading gives them, some words of them changed, the last cut; seldom any words. */
 static void write_once(void) {
-    uint32_t w[4 * MOST_LOOSE] = { 0 }, rows = percent(90) ? range(0, 9) : range(0, MOST_LOOSE - 1), trips = 0, len = 4 * rows;
+    uint32_t w[4 * MOST_LOOSE] = { 0 }, rows = percent(90) ? range(0, 9) : range(0, MOST_LOOSE - 1), len = 4 * rows;
     int transfers = percent(50);
-    uint32_t stops = transfers ? range(0, 3) : 0, seen = stops;
-    for (uint32_t i = 0; i < rows; i++) {
-        uint32_t *r = w + 4 * i;
-        if (transfers) {
-            r[0] = range(0, seen), seen += r[0] == seen;
-            r[1] = range(0, seen), seen += r[1] == seen;
-            r[2] = range(0, 5), r[3] = r[2] == 2 ? PICK(0, 1, 10, 99999, 0xFFFFFFFE) : 0xFFFFFFFF;
-        } else {
-            r[0] = trips > 0 && percent(60) ? trips - 1 : trips, trips = r[0] + 1;
-            r[1] = range(0, seen), seen += r[1] == seen;
-            r[2] = range(86400, 446399), r[3] = PICK(86400, 446399, 90000, 446398);
-        }
-    }
+    uint32_t stops = transfers ? range(0, 3) : 0;
+    make_rows(w, rows, transfers, stops);
     if (len > 0 && percent(40)) for (uint32_t k = range(1, 2); k > 0; k--) {
         uint32_t at = below_n(len);
         if (percent(40)) w[at] += PICK(1, 0xFFFFFFFF);
@@ -146,7 +126,7 @@ int main(int argc, char **argv) {
     limits();
     too_long();
     printf("%lu feeds: ", count);
-    print_given();
+    print_given(stdout);
     printf("; %lu wrong\n", wrong);
     return wrong > 0;
 }

@@ -1,5 +1,4 @@
 /* One input through the proved reader and writers and through plain C's. */
-#include <stdio.h>
 #include <stdlib.h>
 #include <string.h>
 #include "gtfs_try.h"
@@ -7,12 +6,12 @@
 
 unsigned long read_given[NUMBERS], write_given[NUMBERS], read_back;
 
-void print_given(void) {
-    printf("read");
-    for (int i = 0; i < NUMBERS; i++) if (read_given[i]) printf(" %d: %lu", i, read_given[i]);
-    printf("; written");
-    for (int i = 0; i < NUMBERS; i++) if (write_given[i]) printf(" %d: %lu", i, write_given[i]);
-    printf("; read back: %lu", read_back);
+void print_given(FILE *out) {
+    fprintf(out, "read");
+    for (int i = 0; i < NUMBERS; i++) if (read_given[i]) fprintf(out, " %d: %lu", i, read_given[i]);
+    fprintf(out, "; written");
+    for (int i = 0; i < NUMBERS; i++) if (write_given[i]) fprintf(out, " %d: %lu", i, write_given[i]);
+    fprintf(out, "; read back: %lu", read_back);
 }
 
 static void *filled(size_t bytes, int junk) { return memset(malloc(bytes + 1), junk, bytes); }

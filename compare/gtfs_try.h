@@ -4,6 +4,7 @@
 
 #include <stddef.h>
 #include <stdint.h>
+#include <stdio.h>
 #include "../plain/gtfs.h"
 
 /* What the program that tries gives: a slice of exactly so many bytes, past which nothing may be touched, and its return; and what is done
@@ -16,7 +17,7 @@ void differ(const char *what, uint32_t ours, uint32_t plain);
 /* How often each number was given, by the reader and by both writers. */
 enum { NUMBERS = 16 };
 extern unsigned long read_given[NUMBERS], write_given[NUMBERS], read_back;
-void print_given(void);
+void print_given(FILE *out);
 
 /* The lengths in words of TIMES to TOLD; those of FILE_ONE and FILE_TWO in bytes. Before the call all is filled with the byte junk. */
 typedef struct { const uint8_t *file[2]; size_t len[SLICES]; uint8_t junk; } gtfs_input;

@@ -14,7 +14,6 @@ DECISIONS, PROVING = "docs/DECISIONS.md", "docs/PROVING.md"
 # cites two of them.
 TWICE = {
     "Chosen": ("model raptor_reply", "the routes that are chosen, and the stop that is: document 01 has one word for both"),
-    "roomOf": ("raptor gtfs_read", "the lengths that tables ask of a workspace, and the rows that lent tables have for a feed: the search and the feed never meet"),
 }
 # A law or a definition that nothing reaches, and why it stays.
 ALONE = {}

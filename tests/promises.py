@@ -21,7 +21,7 @@ WHOLE = {
 # The sections of the three demands, and those of the requests: what their statements speak of must be believed.
 DEMANDS, REQUESTS = (1, 2, 3), (9,)
 # What a theorem may suppose of tables, orders and queries: where one that is cited does, a witness is wanted.
-SUPPOSED = ["Accepted", "Laid", "Listed", "Timed", "Ordered", "Measured", "Searchable", "Sound", "SoundPlaces", "Narrow", "Asked", "Fair", "BothWays", "Same", "SamePlaces", "Alike", "Orderly", "Countable", "Wider", "FullSize", "BothShort"]
+SUPPOSED = ["Accepted", "Laid", "Listed", "Timed", "Ordered", "Measured", "Searchable", "Sound", "SoundPlaces", "Narrow", "Asked", "Fair", "BothWays", "Same", "SamePlaces", "Alike", "Orderly", "Countable", "Wider", "FullSize", "BothShort", "AllTaken", "BadInTimes", "BadInTransfers", "FullAt"]
 MADE = "<!-- From here on made by tests/promises.py: what the rows cite beside the above, row by row. -->"
 TOKEN = re.compile(r"\[`([^`]+)`\]\(([^)]*)\)|`([^`]+)`")
 BLOCK = re.compile(r'^<a id="[^"]*"></a>\[`([^`]+)`\]\([^)]*\) `([^`]+)`\n\n```text\n(?:(?!```).*\n)*```$', re.M)

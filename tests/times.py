@@ -7,10 +7,8 @@ import glob, math, os, re, statistics, sys
 PAGE, MOST, FILES, SLOWER = "docs/CHECK-TIMES.md", 25, 2, {"x86-64": 1, "Arm": 1.58}
 # The crates that were there when the rule was made, and may take longer than a new one. The minutes of all bound them.
 OLD = "discovery check_calls check_listing allocator explorer_rides raptor_rounds raptor kiosk_c replay telling querying kiosk".split()
-# A program that is above the rule and is to be cut in two.
-LARGE = ["gtfs"]
 # The crates that "Read GTFS files directly" brought: by them it added more minutes than a request may.
-FEED = "csv numbers names columns feed gtfs_headers gtfs_lines gtfs_rows gtfs_paths gtfs_times gtfs_transfers gtfs_write gtfs_read gtfs_write_times gtfs_write_transfers gtfs_promises gtfs_c gtfs".split()
+FEED = "csv numbers names columns feed gtfs_headers gtfs_lines gtfs_rows gtfs_paths gtfs_times gtfs_transfers gtfs_write gtfs_read gtfs_write_times gtfs_write_transfers gtfs_promises gtfs_c gtfs_telling gtfs_again gtfs".split()
 # The crates with more files of edits than two: how many, and why. None may have more than is said here.
 MORE = {
     "model": (51, "edits of definitions: every worked network runs the whole search, so a refusal does not tell which of two is meant; a check takes 5 seconds"),
@@ -82,7 +80,6 @@ proved once, by `rt ci`; what is then compared with the Rust, plain C and bad in
 ## The rule
 
 1. A new crate takes at most {MOST} seconds on x86-64. The crates that were there before may take longer: {', '.join(f'`{n}`' for n in OLD)}.
-   {', '.join(f'`{n}`' for n in LARGE)}, a program, is above it, and is to be cut in two.
 2. The edits of a crate stand in at most two files, `parts.edit` and `parts_2.edit`, each edit under a line `part: NAME`. A refusal of its own must tell each
    part from the others of its file (`tests/edits.py`): so a file has at most one edit of a function, and an edit of a definition only beside functions
    that do not speak of it. The crates that have more files, and may not have more than this:
@@ -116,9 +113,9 @@ def check():
             wrong.append(f"{name} has {files} files of edits, and may have {most}: put those of single functions together (part: NAME)")
         elif name in MORE and files < most:
             wrong.append(f"tests/times.py: {name} has {files} files of edits, not {most}: say so, or take it off the list")
-        if proved.get(name, 0) > MOST * slower and name not in OLD + LARGE:
+        if proved.get(name, 0) > MOST * slower and name not in OLD:
             wrong.append(f"{PAGE}: {name} takes {proved[name]} seconds, and a new crate may take {MOST * slower:.0f}")
-    wrong += [f"tests/times.py: there is no crate {name}" for name in sorted({*OLD, *LARGE, *MORE, *FEED} - set(crates()))]
+    wrong += [f"tests/times.py: there is no crate {name}" for name in sorted({*OLD, *MORE, *FEED} - set(crates()))]
     total = (sum(proved.values()) + sum(edits.values())) / 60 / slower
     if may is None:
         wrong.append(f"{PAGE}: it does not say how many minutes the gate may take")
@@ -138,7 +135,7 @@ def warn(log):
     for name in crates():
         if name not in was:
             print(f"{PAGE} does not know {name}: tests/times.py LOG")
-        if proved.get(name, 0) / pace > MOST and name not in OLD + LARGE:
+        if proved.get(name, 0) / pace > MOST and name not in OLD:
             print(f"{name} took {proved[name]} seconds, {proved[name] / pace:.0f} at the page's pace: a new crate may take {MOST}")
     total = (sum(proved.values()) + sum(edits.values())) / 60
     if may and total / pace > may:

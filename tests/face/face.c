@@ -7,7 +7,7 @@
 #include "threads.h"
 #include "overlap.h"
 #include "most.h"
-#include "stack.h"
+#include "stacks.h"
 
 int main(int argc, char **argv) {
     if (argc != 5) { printf("face N.net M.net town.net long.net\n"); return 2; }

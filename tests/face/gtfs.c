@@ -1,17 +1,12 @@
 /* The C face of the feed reader as a stranger meets it: each name of kiosk_gtfs.h, each function and each duty, run against the library.
    tests/face.sh compiles it as C99 and as C++11 and gives it the sample feed. */
 #include <pthread.h>
-#include <stdio.h>
-#include <stdlib.h>
 #include <string.h>
+#include "expect.h"
 #include "kiosk_gtfs.h"
+#include "stack.h"
 
-static unsigned long tried, wrong, given[16];
-static void expect(const char *what, unsigned long got, unsigned long wanted) {
-    tried++;
-    if (got == wanted) return;
-    if (++wrong <= 20) printf("not so: %s: %lu, not %lu\n", what, got, wanted);
-}
+static unsigned long given[16];
 static void expect_number(const char *what, uint32_t got, uint32_t wanted) {
     if (got < 16) given[got]++;
     expect(what, got, wanted);
@@ -20,21 +15,17 @@ static void expect_number(const char *what, uint32_t got, uint32_t wanted) {
 typedef struct { uint8_t *bytes; size_t len; } text;
 static text read_text(const char *folder, const char *name) {
     char path[4096];
-    text t = { (uint8_t *)malloc(1 << 16), 0 };
+    text t = { (uint8_t *)some(1 << 16), 0 };
     snprintf(path, sizeof path, "%s/%s", folder, name);
     FILE *f = fopen(path, "rb");
-    if (!f || !t.bytes || (t.len = fread(t.bytes, 1, 1 << 16, f)) == 0) { printf("%s: it cannot be read\n", path); exit(2); }
+    if (!f || (t.len = fread(t.bytes, 1, 1 << 16, f)) == 0) { printf("%s: it cannot be read\n", path); exit(2); }
     fclose(f);
     return t;
 }
 static text said(const char *s) { text t = { (uint8_t *)(uintptr_t)s, strlen(s) }; return t; }
 
 /* Tables with room for as many as there may be. */
-static uint32_t *words(size_t n) {
-    uint32_t *w = (uint32_t *)malloc(n * sizeof *w);
-    if (!w) { printf("no memory\n"); exit(2); }
-    return w;
-}
+static uint32_t *words(size_t n) { return (uint32_t *)some(n * sizeof(uint32_t)); }
 static kiosk_gtfs_tables tables(void) {
     kiosk_gtfs_tables t;
     t.times_len = 4 * KIOSK_GTFS_MOST_TIMES, t.paths_len = 4 * KIOSK_GTFS_MOST_TRANSFERS;
@@ -88,7 +79,7 @@ static void sample(text one, text two) {
 
     /* written, with the room that is enough, and read back */
     size_t first = kiosk_gtfs_times_room(c.times), second = kiosk_gtfs_transfers_room(c.transfers);
-    text a = { (uint8_t *)malloc(first), 0 }, b = { (uint8_t *)malloc(second), 0 };
+    text a = { (uint8_t *)some(first), 0 }, b = { (uint8_t *)some(second), 0 };
     uint32_t w[KIOSK_GTFS_WRITTEN];
     number = kiosk_gtfs_write_times(t.times, 4 * c.times, a.bytes, first, w, KIOSK_GTFS_WRITTEN);
     expect_number("times are written", number, KIOSK_GTFS_DONE);
@@ -176,58 +167,26 @@ static void two_threads(text one, text two) {
     for (int i = 0; i < 2; i++) give_back(&r[i].t);
 }
 
-/* ---- the stack that a call takes: how far below its caller's frame a byte is written, on a thread whose stack was painted before */
+/* ---- the stack that each function takes */
 
-enum { STACK_BYTES = 1 << 20, STACK_EDGE = 1 << 16, STACK_MOST = 1 << 14, JUNK = 0xA5 };
 static struct {
     text one, two;
     kiosk_gtfs_tables t;
     kiosk_gtfs_counts c;
     uint8_t out[2000];
     uint32_t told[2];
-    void (*run)(void);
-    const uint8_t *stack;
-    size_t depth;
 } call;
 static void call_read(void) { take(call.one, call.two, &call.t, &call.c); }
 static void call_times(void) { kiosk_gtfs_write_times(call.t.times, 4 * call.c.times, call.out, sizeof call.out, call.told, 2); }
 static void call_transfers(void) {
     kiosk_gtfs_write_transfers(call.t.paths, 4 * call.c.transfers, call.c.split, call.out, sizeof call.out, call.told, 2);
 }
-static void *on_thread(void *p) {
-    volatile uint8_t here = 0;
-    size_t untouched = 0;
-    call.run();
-    while (call.stack[untouched] == JUNK) untouched++;
-    call.depth = (size_t)((uintptr_t)&here - (uintptr_t)(call.stack + untouched));
-    return p;
-}
-static void stack_of(const char *name, void (*run)(void), uint8_t *stack) {
-    pthread_attr_t how;
-    pthread_t thread;
-    run();                              /* once where it does not count: the linker may have work at a first call */
-    memset(stack, JUNK, STACK_BYTES);
-    call.run = run, call.stack = stack;
-    pthread_attr_init(&how);
-    if (pthread_attr_setstack(&how, stack, STACK_BYTES) != 0 || pthread_create(&thread, &how, on_thread, NULL) != 0) {
-        printf("no thread\n");
-        exit(2);
-    }
-    pthread_join(thread, NULL);
-    pthread_attr_destroy(&how);
-    printf(" %s %lu", name, (unsigned long)call.depth);
-    expect("the stack is small", call.depth < STACK_MOST, 1);
-}
 static void stacks(text one, text two) {
-    uint8_t *memory = (uint8_t *)malloc(STACK_BYTES + STACK_EDGE), *stack = memory;
-    if (!memory) { printf("no memory\n"); exit(2); }
-    stack += (STACK_EDGE - (uintptr_t)stack % STACK_EDGE) % STACK_EDGE;
+    static const measured calls[] = {
+        { "kiosk_gtfs_take", call_read }, { "kiosk_gtfs_write_times", call_times }, { "kiosk_gtfs_write_transfers", call_transfers } };
     call.one = one, call.two = two, call.t = tables();
-    printf("bytes of stack, at most:");
-    stack_of("kiosk_gtfs_take", call_read, stack), stack_of("kiosk_gtfs_write_times", call_times, stack);
-    stack_of("kiosk_gtfs_write_transfers", call_transfers, stack);
-    printf("\n");
-    give_back(&call.t), free(memory);
+    stacks_of(calls, sizeof calls / sizeof *calls);
+    give_back(&call.t);
 }
 
 int main(int argc, char **argv) {

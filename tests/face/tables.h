@@ -1,23 +1,9 @@
-/* Tables from a file, what is lent to a search on them, and what is expected of it. */
+/* Tables from a file, and what is lent to a search on them. */
 #ifndef TABLES_H
 #define TABLES_H
-#include <stdio.h>
-#include <stdlib.h>
 #include <string.h>
+#include "expect.h"
 #include "kiosk.h"
-
-static unsigned long tried, wrong;
-static void expect(const char *what, unsigned long got, unsigned long wanted) {
-    tried++;
-    if (got == wanted) return;
-    if (++wrong <= 20) printf("not so: %s: %lu, not %lu\n", what, got, wanted);
-}
-
-static void *some(size_t bytes) {       /* never NULL, so that only what is meant to be is */
-    void *p = malloc(bytes ? bytes : 1);
-    if (!p) { printf("no memory\n"); exit(2); }
-    return p;
-}
 
 typedef struct { uint32_t *words; size_t len; } tables;
 
@@ -36,7 +22,6 @@ static tables read_tables(const char *path) {
 
 /* A workspace and a journey buffer for the tables. */
 typedef struct { kiosk_workspace work; uint8_t *journey; size_t journey_len; } lent;
-enum { JUNK = 0xA5 };
 
 static void spoil(const lent *l) {
     memset(l->work.words, JUNK, l->work.lengths.words * sizeof *l->work.words);

@@ -1,13 +1,13 @@
 -- Fields of a line taken one by one: the texts so far and the fields of what is left are those of the line.
 -- Assumes nothing.
-use Prim.Native.Nat.{ℕ, zero, suc, _+_, _-_, _≤_, _<_}
+use Prim.Native.Nat.{ℕ, _+_, _-_, _≤_, _<_}
 use mathlib.Core.Path.{_≡_, refl, sym, ap, _∙_}
 use mathlib.Core.Option.{Option, none, some}
 use mathlib.Core.List.{List, [], _∷_, _++_, append-assoc}
 use native.Mathlib.Omega.{arith}
 use lib.ListN.{length, getD}
 use Rattle.csv.specs.Part.{part}
-use Rattle.csv.specs.Fields.{Scan, taken, wrong, field, withField, fields}
+use Rattle.csv.specs.Fields.{taken, field, withField, fields}
 use Rattle.csv.specs.Read.{scanOf, Within}
 use Rattle.csv.specs.declared.Scanned.{Scanned}
 use Rattle.csv.specs.declared.Scanned.the-variants.{Taken, Wrong}

@@ -1,5 +1,5 @@
 -- The five fields that are wanted of a line, each by its place, and where a column stands in a header.
-use Prim.Native.Nat.{ℕ, zero, suc, _≤_}
+use Prim.Native.Nat.{ℕ, suc, _≤_}
 use mathlib.Core.Bool.{Bool, true, false, cond}
 use mathlib.Core.Option.{Option, none, some}
 use mathlib.Core.List.{List, [], _∷_}
@@ -8,7 +8,6 @@ use Rattle.csv.specs.Part.{part}
 use Rattle.csv.specs.Texts.{sameText}
 use Rattle.columns.specs.declared.Span.{Span}
 use Rattle.columns.specs.declared.Wanted.{Wanted}
-use Rattle.columns.specs.declared.Picked.{Picked}
 use Rattle.columns.specs.declared.Picking.{Picking}
 use Rattle.columns.specs.declared.Picking.the-variants.{Fields, Wrong}
 use Rattle.columns.specs.declared.Column.{Column}

@@ -1,16 +1,20 @@
 -- Lines and fields one at a time.
 -- Assumes nothing.
-use Prim.Native.Nat.{ℕ, zero, suc, _+_, _≤_, _<_}
+use Prim.Native.Nat.{ℕ, zero, suc, _+_, _-_, _≤_, _<_}
 use mathlib.Core.Path.{_≡_, refl, sym, ap, _∙_}
-use mathlib.Core.Bool.{Bool, true, false, cond}
-use mathlib.Core.Option.{Option, none, some}
+use mathlib.Core.Bool.{Bool, true, false}
+use mathlib.Core.Option.{none, some}
 use mathlib.Core.List.{List, [], _∷_}
 use native.Mathlib.Omega.{arith}
-use lib.ListN.{length}
+use lib.ListN.{length, drop, length-drop}
 use lib.Dec.{eqb}
 use Rattle.base.proofs.Choice.{split}
+use Rattle.csv.specs.Part.{part}
 use Rattle.csv.specs.Lines.{lineOf, afterLine, trimmed, linesFrom, lines}
 use Rattle.csv.specs.Fields.{Scan, taken, wrong, joined, plain, quoted, field, withField, fieldsFrom, fields}
+use Rattle.csv.specs.declared.TextLine.{TextLine}
+use Rattle.csv.specs.Read.{LineAt}
+use Rattle.csv.proofs.Parts.{part-ends}
 
 behind-less : (x : ℕ) (b : List ℕ) → length (afterLine (x ∷ b)) ≤ length b
 unfolding afterLine
@@ -39,6 +43,37 @@ lines-step [] h = absurd (omega arith)
 lines-step (x ∷ b) h =
     ap (λ (ls : List (List ℕ)). trimmed (lineOf (x ∷ b)) ∷ ls)
     (enough (length b) (length (afterLine (x ∷ b))) (afterLine (x ∷ b)) (behind-less x b) (omega arith))
+
+-- the line that begins at a, ends at e and has its text up to t
+pub line-at : (b : List ℕ) {a e t n : ℕ} → a < length b → part a e b ≡ lineOf (drop a b) → (a ≤ e) × (e ≤ length b)
+    → afterLine (drop a b) ≡ drop (e + 1) b → part a t b ≡ trimmed (part a e b) → (a ≤ t) × (t ≤ e) → n ≡ e + 1
+    → LineAt b a (record { end = t; next = n })
+line-at b {a} {e} {t} {n} h l w r m v q = record {
+  parted =
+      lines-step (drop a b) (omega (arith, length-drop a b))
+      ∙ (let u : trimmed (lineOf (drop a b)) ≡ part a t b = ap trimmed (sym l) ∙ sym m in rw (u, r, q));
+  line = (let u : n - 1 ≡ e = omega arith in rw u l);
+  forward = v .0;
+  inside = omega (arith, v .1, w .1);
+  further = omega (arith, w .0);
+  within = omega (arith, w .1);
+}
+
+-- there is one such line
+head-is : {A : Type 0} {x y : A} {l m : List A} → x ∷ l ≡ y ∷ m → x ≡ y
+head-is e = cc
+
+pub line-once : {b : List ℕ} {a : ℕ} {r s : TextLine} → LineAt b a r → LineAt b a s → r ≡ s
+line-once {b} {a} {r} {s} p q =
+    let before = p .further in
+    let behind = q .further in
+    let within = p .within in
+    let inside = q .within in
+    let e = part-ends b a (r .end) (s .end) (p .forward) (p .inside) (q .forward) (q .inside) (head-is (sym (p .parted) ∙ q .parted)) in
+    let m =
+    part-ends b a (r .next - 1) (s .next - 1) (omega arith) (omega arith) (omega arith) (omega arith) (p .line ∙ sym (q .line)) in
+    let n : r .next ≡ s .next = omega arith in
+    rw (e, n)
 
 -- ---- fields
 -- what stands behind a field is no longer than all

@@ -1,7 +1,7 @@
 -- "CR LF or LF": a line is what stands before a line feed; behind the last one there is a line where a byte is left. A carriage return that ends
 -- a line is no part of it.
 use Prim.Native.Nat.{ℕ, zero, suc, _-_}
-use mathlib.Core.Bool.{Bool, cond}
+use mathlib.Core.Bool.{cond}
 use mathlib.Core.List.{List, [], _∷_}
 use lib.Dec.{eqb}
 use lib.ListN.{length, getD, take}

@@ -7,7 +7,7 @@ ghost use Rattle.csv.specs.Part.{part};
 ghost use Rattle.csv.specs.Texts.{sameText};
 ghost use Rattle.csv.specs.Lines.{lineOf, afterLine, trimmed};
 ghost use Rattle.csv.specs.Fields.{plain, quoted, field as fieldIn};
-ghost use Rattle.csv.specs.Read.{scanOf, Within};
+ghost use Rattle.csv.specs.Read.{scanOf, Within, LineAt};
 
 // A field of a line: its text stands from `from` up to below `to`, and `next` is where a comma or the line's end follows.
 pub enum Scanned {
@@ -15,8 +15,14 @@ pub enum Scanned {
     Wrong,
 }
 
+// A line: its text ends before `end`, and the next line begins at `next`.
+pub struct TextLine {
+    pub end: usize,
+    pub next: usize,
+}
+
 // Where the line that begins at a ends: at its line feed, or with the bytes.
-pub fn line_end(bytes: &[u8], a: usize) -> usize
+fn line_end(bytes: &[u8], a: usize) -> usize
     requires { ⌜ a ≤ length (now bytes) ⌝ }
     ensures { λ e. ⌜ part a e (now (bytes .entry)) ≡ lineOf (drop a (now (bytes .entry))) ⌝ }
     ensures { λ e. ⌜ (a ≤ e) × (e ≤ length (now (bytes .entry))) ⌝ }
@@ -33,7 +39,7 @@ pub fn line_end(bytes: &[u8], a: usize) -> usize
 }
 
 // Where the text of a line ends that stands from a up to below e: before a carriage return.
-pub fn text_end(bytes: &[u8], a: usize, e: usize) -> usize
+fn text_end(bytes: &[u8], a: usize, e: usize) -> usize
     requires { ⌜ a ≤ e ⌝ }
     requires { ⌜ e ≤ length (now bytes) ⌝ }
     ensures { λ t. ⌜ part a t (now (bytes .entry)) ≡ trimmed (part a e (now (bytes .entry))) ⌝ }
@@ -47,6 +53,19 @@ pub fn text_end(bytes: &[u8], a: usize, e: usize) -> usize
         return e;
     }
     e
+}
+
+// The line that begins at a.
+pub fn line(bytes: &[u8], a: usize) -> TextLine
+    requires { ⌜ a < length (now bytes) ⌝ }
+    ensures { λ r. ⌜ LineAt (now (bytes .entry)) a r ⌝ }
+{
+    let e = line_end(bytes, a);
+    let t = text_end(bytes, a, e);
+    TextLine {
+        end: t,
+        next: e + 1,
+    }
 }
 
 // The field that begins at a, which is no quote, in a line that ends at e.

@@ -26,12 +26,12 @@ use Rattle.feed.specs.Writing.{lineWith, positionAfter, timeText, timesT
 use Rattle.feed.specs.Writing.{transfersText, transfersHeader, writeTransfers}
 
 -- a text as its bytes; all of these texts are ASCII but for the three bytes of the mark
-pub bytes : String → List ℕ
+unfoldable pub bytes : String → List ℕ
 bytes «none» = []
 bytes (c before s) = code c ∷ bytes s
 
 -- both files, with so much room for stops, trips, times and transfers
-pub given : ℕ → ℕ → ℕ → ℕ → List ℕ → List ℕ → Got
+unfoldable pub given : ℕ → ℕ → ℕ → ℕ → List ℕ → List ℕ → Got
 unfolding ifThere sameText lineOf afterLine trimmed linesFrom lines joined plain quoted field withField fieldsFrom fields decimalFrom decimal
     upTo eightBytes clock placeAmong isNamed columnFrom columnOf tripId arrivalTime departureTime stopId stopSequence fromStopId toStopId
     transferType minTransferTime onlyPlace timesColumns anyPlace transferColumns knownAs namedBy named numberBy numberOf isId timeValues timeLine

@@ -81,6 +81,10 @@ module _ (names : List (List ℕ)) (t : List ℕ) where
       go zero e = g e
       go (suc i) e = f i e
 
+  -- one more than a place is no more than there are names
+  pub known-most : knownAs names t ≤ length names
+  known-most = known-either (λ i e. let h = known-below i e in rw e (omega arith)) (λ e. rw e (omega arith))
+
   -- ---- the number of a name
   pub number-least : numberOf names t ≤ length names
   unfolding numberOf numberBy

@@ -1,5 +1,4 @@
 -- How the reading of a file ends, as the code answers with it.
-use Prim.Native.Nat.{ℕ}
 use Rattle.feed.specs.declared.Ending.{Ending}
 use Rattle.feed.specs.declared.Ending.the-variants.{Done, Bad, Full}
 use Rattle.feed.specs.Feed.{End, done, badTimes, badTransfers, full}

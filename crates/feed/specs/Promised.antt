@@ -1,5 +1,5 @@
 -- "reading that gives the same tables": what reading what was written gives, and in which rooms.
-use Prim.Native.Nat.{ℕ, _≤_}
+use Prim.Native.Nat.{_≤_}
 use mathlib.Core.Path.{_≡_}
 use mathlib.Core.List.{List}
 use lib.ListN.{length}

@@ -14,7 +14,7 @@ use Rattle.numbers.specs.Clock.{clock}
 use Rattle.feed.specs.declared.Room.{Room}
 use Rattle.feed.specs.declared.TimesColumns.{TimesColumns}
 use Rattle.feed.specs.Columns.{timesColumns}
-use Rattle.feed.specs.Feed.{TimeRow, Feed, emptyFeed, named, numberOf, done, badTimes, full, Got}
+use Rattle.feed.specs.Feed.{Feed, emptyFeed, named, numberOf, done, badTimes, full, Got}
 
 -- a line's values
 pub record TimeLine : Type 0 where

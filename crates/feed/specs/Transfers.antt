@@ -11,7 +11,7 @@ use Rattle.numbers.specs.Decimal.{decimal}
 use Rattle.feed.specs.declared.Room.{Room}
 use Rattle.feed.specs.declared.TransferColumns.{TransferColumns}
 use Rattle.feed.specs.Columns.{transferColumns}
-use Rattle.feed.specs.Feed.{TransferRow, Feed, named, numberOf, done, badTransfers, full, Got}
+use Rattle.feed.specs.Feed.{Feed, named, numberOf, done, badTransfers, full, Got}
 use Rattle.feed.specs.Times.{isId}
 
 pub record TransferLine : Type 0 where

@@ -3,7 +3,6 @@
 ghost use Prim.Native.Nat.{_≤_, _<_};
 ghost use lib.ListN.{length};
 use gtfs_read::Told;
-use gtfs_write::Written;
 use libc::STDIN_FILENO;
 
 // Whether a line that is twice the byte begins here.
@@ -45,205 +44,6 @@ fn mark_from(bytes: &[u8], b: u8) -> usize
     bytes.len()
 }
 
-// A span, or that none is stated.
-fn span(n: u32) {
-    if n == 4294967295 {
-        print::text(b" unstated");
-        return;
-    }
-    print::field(n);
-}
-
-fn print_times(words: &[u32]) {
-    let mut i = 0;
-    while i < words.len() / 4 {
-        print::text(b"time");
-        print::field(words[4 * i]);
-        print::field(words[4 * i + 1]);
-        print::field(words[4 * i + 2]);
-        print::field(words[4 * i + 3]);
-        print::text(b"\n");
-        i += 1;
-    }
-}
-
-fn print_transfers(words: &[u32]) {
-    let mut i = 0;
-    while i < words.len() / 4 {
-        print::text(b"transfer");
-        print::field(words[4 * i]);
-        print::field(words[4 * i + 1]);
-        print::field(words[4 * i + 2]);
-        span(words[4 * i + 3]);
-        print::text(b"\n");
-        i += 1;
-    }
-}
-
-// A bad line, by its file.
-fn print_bad(file: u32, line: u32) {
-    if file == 1 {
-        print::text(b"14 stop_times");
-    } else {
-        print::text(b"14 transfers");
-    }
-    print::field(line);
-    print::text(b"\n");
-}
-
-// The number of a feed that was not read to its end.
-fn print_number(t: Told) {
-    let number = t.number;
-    match number {
-        0 => return,
-        14 => {
-            print_bad(t.file, t.line);
-            return;
-        }
-        _ => {
-            print::number(number as u64);
-            print::text(b"\n");
-            return;
-        }
-    }
-}
-
-// How much was taken.
-fn print_counts(t: Told) {
-    print::text(b"read");
-    print::field(t.stops);
-    print::text(b" stops");
-    print::field(t.trips);
-    print::text(b" trips");
-    print::field(t.times);
-    print::text(b" times");
-    print::field(t.transfers);
-    print::text(b" transfers\n");
-}
-
-// Whether the words stand at the other's beginning.
-fn begins(words: &[u32], other: &[u32]) -> bool {
-    if other.len() < words.len() {
-        return false;
-    }
-    let mut i = 0;
-    while i < words.len() {
-        if words[i] != other[i] {
-            return false;
-        }
-        i += 1;
-    }
-    true
-}
-
-// Whether so much was taken both times.
-fn same_counts(t: Told, u: Told) -> bool {
-    if t.stops != u.stops {
-        return false;
-    }
-    if t.trips != u.trips {
-        return false;
-    }
-    if t.times != u.times {
-        return false;
-    }
-    t.transfers == u.transfers
-}
-
-// What was read of the files that were written, held to what they were written from.
-fn compare(times: &[u32], paths: &[u32], again: &[u32], again_paths: &[u32], t: Told, u: Told) {
-    if 0 < u.number {
-        print::text(b"not read again: ");
-        print_number(u);
-        return;
-    }
-    let counts = same_counts(t, u);
-    if !counts {
-        print::text(b"other counts\n");
-        return;
-    }
-    let same_times = begins(times, again);
-    if !same_times {
-        print::text(b"other times\n");
-        return;
-    }
-    let same_paths = begins(paths, again_paths);
-    if !same_paths {
-        print::text(b"other transfers\n");
-        return;
-    }
-    print::text(b"same\n");
-}
-
-// Reads the files that were written.
-fn read_again(stop_times: &[u8], transfers: &[u8], times: &[u32], paths: &[u32], t: Told) {
-    let mut again = [0u32; 1024];
-    let mut again_paths = [0u32; 256];
-    let mut stops = [0u32; 64];
-    let mut trips = [0u32; 64];
-    let u = gtfs_read::read(
-        stop_times,
-        transfers,
-        &mut again,
-        &mut again_paths,
-        &mut stops,
-        &mut trips,
-    );
-    compare(times, paths, &again, &again_paths, t, u);
-}
-
-fn refused(number: u32) {
-    print::text(b"not written: ");
-    print::number(number as u64);
-    print::text(b"\n");
-}
-
-// Writes the transfers behind the times, which are written, and reads both again.
-fn write_paths_in(out: &mut [u8], stop_times: &[u8], times: &[u32], paths: &[u32], t: Told) {
-    let written = gtfs_write_transfers::write_transfers(paths, t.split, out);
-    match written {
-        Written::Refused(k) => {
-            refused(k);
-            return;
-        }
-        Written::Bytes(n) => {
-            if out.len() < n {
-                return;
-            }
-            read_again(stop_times, &out[..n], times, paths, t);
-            return;
-        }
-    }
-}
-
-fn write_paths(stop_times: &[u8], times: &[u32], paths: &[u32], t: Told) {
-    let mut out = [0u8; 1536];
-    write_paths_in(&mut out, stop_times, times, paths, t);
-}
-
-// Writes the rows, and reads them again.
-fn write_in(out: &mut [u8], times: &[u32], paths: &[u32], t: Told) {
-    let written = gtfs_write_times::write_times(times, out);
-    match written {
-        Written::Refused(k) => {
-            refused(k);
-            return;
-        }
-        Written::Bytes(n) => {
-            if out.len() < n {
-                return;
-            }
-            write_paths(&out[..n], times, paths, t);
-            return;
-        }
-    }
-}
-
-fn write(times: &[u32], paths: &[u32], t: Told) {
-    let mut out = [0u8; 9280];
-    write_in(&mut out, times, paths, t);
-}
-
 // Prints what was read, and writes it.
 fn show(times: &[u32], paths: &[u32], t: Told) {
     let n = t.times as usize * 4;
@@ -254,11 +54,11 @@ fn show(times: &[u32], paths: &[u32], t: Told) {
     if paths.len() < m {
         return;
     }
-    print_number(t);
-    print_counts(t);
-    print_times(&times[..n]);
-    print_transfers(&paths[..m]);
-    write(&times[..n], &paths[..m], t);
+    gtfs_telling::print_number(t);
+    gtfs_telling::print_counts(t);
+    gtfs_telling::print_times(&times[..n]);
+    gtfs_telling::print_transfers(&paths[..m]);
+    gtfs_again::write_and_read(&times[..n], &paths[..m], t);
 }
 
 // Room for 256 times, 64 transfers, 16 stops and 16 trips.

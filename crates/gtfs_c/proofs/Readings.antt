@@ -1,16 +1,15 @@
 -- What is told of a reading, and what is left.
 -- Assumes nothing.
-use Prim.Native.Nat.{ℕ, _+_, _≤_, _<_}
-use mathlib.Core.Path.{_≡_, refl, sym, ap, _∙_, subst}
-use mathlib.Core.Bool.{Bool, true, false}
-use mathlib.Core.List.{List, [], _∷_, _++_}
+use Prim.Native.Nat.{ℕ, _≤_, _<_}
+use mathlib.Core.Path.{_≡_, refl, subst}
+use mathlib.Core.List.{List, [], _∷_}
 use native.Mathlib.Omega.{arith}
 use lib.ListN.{length}
 use borrow.Author.Tests.{le-leb, lt-leb, le-ltb, lt-ltb}
 use Rattle.base.specs.Put.{withBytes}
 use Rattle.base.proofs.Put.{put-then}
 use Rattle.gtfs_read.specs.declared.Told.{Told}
-use Rattle.gtfs_read.specs.Reads.{LentFeed, roomOf, isTooLong, toldFeed, Reads}
+use Rattle.gtfs_read.specs.Reads.{LentFeed, feedRoom, isTooLong, toldFeed, Reads}
 use Rattle.gtfs_c.specs.FeedFace.{readingWords, readingShort, FeedFaced}
 
 pub eight-told : (l : List ℕ) (t : Told) {x y : List ℕ} → 8 ≤ length l
@@ -49,7 +48,7 @@ module _ (a b : List ℕ) (l : LentFeed) (told : List ℕ) where
   pub feed-faced : {t : Told} {r : ℕ} {l′ : LentFeed} {told′ : List ℕ} → 8 ≤ length told → Reads a b l t l′ → r ≡ t .number
       → told′ ≡ withBytes told 0 (readingWords t) → FeedFaced a b l told r l′ told′
   feed-faced {t} {r} {l′} {told′} h x e f =
-      let q : t ≡ toldFeed (roomOf l) a b = x .said in
+      let q : t ≡ toldFeed (feedRoom l) a b = x .said in
       record {
         number = rw (le-leb 8 (length told) h, ← q) e;
         tells = rw (le-leb 8 (length told) h, ← q) f;

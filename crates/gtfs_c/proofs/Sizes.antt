@@ -1,22 +1,21 @@
 -- A text that is written fits 32 bits: no row takes more than 51 bytes.
 -- Assumes nothing.
-use Prim.Native.Nat.{ℕ, zero, suc, _+_, _*_, _/_, _≤_, _<_}
-use mathlib.Core.Path.{_≡_, refl, sym, ap, _∙_}
-use mathlib.Core.Bool.{Bool, true, false, cond, _&&_}
-use mathlib.Core.List.{List, [], _∷_, _++_}
+use Prim.Native.Nat.{ℕ, zero, suc, _+_, _*_, _≤_, _<_}
+use mathlib.Core.Path.{_≡_, refl}
+use mathlib.Core.Bool.{Bool, true, false}
+use mathlib.Core.List.{List, [], _∷_}
 use native.Mathlib.Omega.{arith}
 use lib.Dec.{eqb, leb, ltb}
 use lib.ListN.{length, length-append}
 use borrow.Author.Tests.{eqb-true, leb-true, ltb-true}
-use Rattle.base.proofs.Choice.{split, and-left, cond-elim}
+use Rattle.base.proofs.Choice.{split, and-left}
 use Rattle.model.specs.Limits.{MOST-STOP-TIMES, MOST-TRANSFERS}
-use Rattle.numbers.specs.Decimal.{digits}
 use Rattle.numbers.proofs.Written.{digits-few}
 use Rattle.feed.specs.Feed.{TimeRow, TransferRow}
 use Rattle.feed.specs.Columns.{tripId, arrivalTime, departureTime, stopId, stopSequence, fromStopId, toStopId, transferType, minTransferTime}
 use Rattle.feed.specs.Transfers.{UNSTATED}
 use Rattle.feed.specs.Orderly.{Seen, noneSeen, seenAfter, afterTime, timesFault, spanFits, afterTransfer, transfersFault}
-use Rattle.feed.specs.Rows.{foursIn, timeWith, timeRowsIn, transferWith, transferRowsIn}
+use Rattle.feed.specs.Rows.{timeWith, timeRowsIn, transferWith, transferRowsIn}
 use Rattle.feed.specs.Writing.{lineWith, positionAfter, timeText, timesText, timesHeader, writeTimes, spanText, transferText, transfersText, transfersHeader, writeTransfers}
 use Rattle.feed.proofs.Rows.{fours-length}
 use Rattle.feed.proofs.Faultless.{TimeRight, time-right, times-first, times-rest, trip-inside, stop-inside, TransferRight, transfer-right, transfers-first, transfers-rest}

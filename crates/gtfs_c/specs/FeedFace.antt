@@ -7,7 +7,7 @@ use lib.Dec.{leb}
 use lib.ListN.{length}
 use Rattle.base.specs.Put.{withBytes}
 use Rattle.gtfs_read.specs.declared.Told.{Told}
-use Rattle.gtfs_read.specs.Reads.{LentFeed, roomOf, isTooLong, toldFeed, Reads}
+use Rattle.gtfs_read.specs.Reads.{LentFeed, feedRoom, isTooLong, toldFeed, Reads}
 use Rattle.gtfs_write.specs.declared.Written.{Written}
 use Rattle.gtfs_write.specs.declared.Written.the-variants.{Bytes, Refused}
 use Rattle.gtfs_write.specs.Written.{heldAfter}
@@ -44,7 +44,7 @@ readingShort a b = cond (isTooLong a b) 1 6
 
 -- two files, what is lent and `told`; the number, and both afterwards: what `read` answers and leaves, or nothing is touched
 pub record FeedFaced (a b : List ℕ) (l : LentFeed) (told : List ℕ) (r : ℕ) (l′ : LentFeed) (told′ : List ℕ) : Type 0 where
-  pub number : r ≡ cond (leb 8 (length told)) ((toldFeed (roomOf l) a b) .number) (readingShort a b)
-  pub tells : told′ ≡ cond (leb 8 (length told)) (withBytes told 0 (readingWords (toldFeed (roomOf l) a b))) told
-  pub reads : 8 ≤ length told → Reads a b l (toldFeed (roomOf l) a b) l′
+  pub number : r ≡ cond (leb 8 (length told)) ((toldFeed (feedRoom l) a b) .number) (readingShort a b)
+  pub tells : told′ ≡ cond (leb 8 (length told)) (withBytes told 0 (readingWords (toldFeed (feedRoom l) a b))) told
+  pub reads : 8 ≤ length told → Reads a b l (toldFeed (feedRoom l) a b) l′
   pub untouched : length told < 8 → l′ ≡ l

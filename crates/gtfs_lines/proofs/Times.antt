@@ -1,7 +1,7 @@
 -- A row of stop_times.txt: its moments and its sequence.
 -- Assumes nothing.
 use Prim.Native.Nat.{ℕ}
-use mathlib.Core.Path.{_≡_, refl, sym, ap, _∙_}
+use mathlib.Core.Path.{_≡_, refl, sym, _∙_}
 use mathlib.Core.Option.{Option, none, some}
 use mathlib.Core.List.{List}
 use Rattle.csv.specs.There.{ifThere}
@@ -21,7 +21,6 @@ use Rattle.numbers.proofs.Clocks.{told-none, told-some}
 use Rattle.feed.specs.declared.TimesColumns.{TimesColumns}
 use Rattle.feed.specs.Times.{TimeLine, timeValues, timeLine}
 use Rattle.feed.specs.Spans.{timeAt}
-use Rattle.gtfs_lines.specs.declared.TimeRead.{TimeRead}
 use Rattle.gtfs_lines.specs.declared.TimeRead.the-variants.{Values, Bad}
 use Rattle.gtfs_lines.specs.Values.{formed, timeRead, timeIn}
 use Rattle.gtfs_lines.proofs.Forms.{line-picked, line-wrong}

@@ -1,11 +1,11 @@
 -- A row of transfers.txt: its type and its span.
 -- Assumes nothing.
-use Prim.Native.Nat.{ℕ, _+_, _≤_, _<_}
-use mathlib.Core.Path.{_≡_, refl, sym, ap, _∙_}
+use Prim.Native.Nat.{ℕ, _≤_, _<_}
+use mathlib.Core.Path.{_≡_, refl, sym, _∙_}
 use mathlib.Core.Bool.{cond}
 use mathlib.Core.Option.{Option, none, some}
-use mathlib.Core.List.{List, [], _∷_}
-use lib.Dec.{leb, ltb, eqb}
+use mathlib.Core.List.{List}
+use lib.Dec.{leb}
 use lib.ListN.{length}
 use borrow.Author.Tests.{eq-eqb, ne-eqb, le-leb, lt-leb, lt-ltb, le-ltb}
 use Rattle.csv.specs.There.{ifThere}
@@ -17,7 +17,7 @@ use Rattle.columns.specs.declared.Wanted.{Wanted}
 use Rattle.columns.specs.declared.Picked.{Picked}
 use Rattle.columns.specs.declared.Picking.{Picking}
 use Rattle.columns.specs.declared.Picking.the-variants.{Fields, Wrong}
-use Rattle.columns.specs.Picks.{fiveOf, fiveIn, textAt, pickedIn, Spanned}
+use Rattle.columns.specs.Picks.{fiveOf, fiveIn, textAt, pickedIn}
 use Rattle.numbers.specs.declared.Number.{Number}
 use Rattle.numbers.specs.declared.Number.the-variants.{Is, Nothing}
 use Rattle.numbers.specs.Decimal.{decimal}
@@ -26,7 +26,6 @@ use Rattle.numbers.proofs.Clocks.{told-none, told-some}
 use Rattle.feed.specs.declared.TransferColumns.{TransferColumns}
 use Rattle.feed.specs.Transfers.{TransferLine, UNSTATED, kindOf, spanOf, transferValues, transferLine}
 use Rattle.feed.specs.Spans.{transferAt}
-use Rattle.gtfs_lines.specs.declared.TransferRead.{TransferRead}
 use Rattle.gtfs_lines.specs.declared.TransferRead.the-variants.{Values, Bad}
 use Rattle.gtfs_lines.specs.Values.{formed, transferRead, transferIn}
 use Rattle.gtfs_lines.proofs.Forms.{line-picked, line-wrong}

@@ -12,10 +12,8 @@ use Rattle.numbers.specs.Clock.{clock}
 use Rattle.feed.specs.Times.{TimeLine, isId}
 use Rattle.feed.specs.Transfers.{TransferLine, kindOf, spanOf}
 use Rattle.feed.specs.Spans.{timeAt, transferAt}
-use Rattle.feed.specs.declared.TimeSpans.{TimeSpans}
 use Rattle.gtfs_lines.specs.declared.TimeRead.{TimeRead}
 use Rattle.gtfs_lines.specs.declared.TimeRead.the-variants.{Values as TimeValues, Bad as TimeBad}
-use Rattle.feed.specs.declared.TransferSpans.{TransferSpans}
 use Rattle.gtfs_lines.specs.declared.TransferRead.{TransferRead}
 use Rattle.gtfs_lines.specs.declared.TransferRead.the-variants.{Values as TransferValues, Bad as TransferBad}
 

@@ -16,8 +16,8 @@ use Rattle.names.specs.declared.Shelf.{Shelf}
 use Rattle.names.specs.Book.{Book, namesIn}
 use Rattle.names.proofs.Booking.{booked-count, place-same}
 use Rattle.feed.specs.Feed.{knownAs, named, numberBy, numberOf}
-use Rattle.feed.proofs.Naming.{number-least}
-use Rattle.gtfs_rows.proofs.Named.{known-most, with-named, with-old, with-next}
+use Rattle.feed.proofs.Naming.{known-most, number-least}
+use Rattle.gtfs_rows.proofs.Named.{with-named, with-old, with-next}
 use Rattle.gtfs_rows.proofs.Naming.{booked-here}
 
 -- among the names and one behind them

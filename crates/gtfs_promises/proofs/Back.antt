@@ -15,7 +15,7 @@ use Rattle.feed.proofs.Rows.{fours-length, flat-times, flat-transfers}
 use Rattle.feed.proofs.RoundTrip.{written-reads}
 use Rattle.feed.proofs.Widening.{orderly-wider}
 use Rattle.gtfs_read.specs.declared.Told.{Told}
-use Rattle.gtfs_read.specs.Reads.{LentFeed, roomOf, isTooLong, numberFor, lineFor, fileFor, splitOf, Reads}
+use Rattle.gtfs_read.specs.Reads.{LentFeed, feedRoom, isTooLong, numberFor, lineFor, fileFor, splitOf, Reads}
 use Rattle.gtfs_write.specs.declared.Written.the-variants.{Bytes}
 use Rattle.gtfs_write.specs.Written.{LIMITS, wholeRows}
 use Rattle.gtfs_write_times.specs.WrittenTimes.{writtenTimes}
@@ -32,7 +32,7 @@ use Rattle.gtfs_promises.proofs.InOrder.{read-in-order}
 use Rattle.gtfs_promises.proofs.Wrote.{Accepts, accepted, text-held, whole-of}
 
 -- ---- rows in order, as text, read again
-module _ (w x : List ℕ) {l : LentFeed} {r : Told} {l′ : LentFeed} (o : Orderly (roomOf l) (timeRowsIn w) (transferRowsIn x))
+module _ (w x : List ℕ) {l : LentFeed} {r : Told} {l′ : LentFeed} (o : Orderly (feedRoom l) (timeRowsIn w) (transferRowsIn x))
     (m : Reads (writeTimes (timeRowsIn w)) (writeTransfers (transferRowsIn x)) l r l′) where
   abbrev ts : List TimeRow
   ts = timeRowsIn w
@@ -42,21 +42,21 @@ module _ (w x : List ℕ) {l : LentFeed} {r : Told} {l′ : LentFeed} (o : Order
 
   short : isTooLong (writeTimes ts) (writeTransfers xs) ≡ false
   short =
-      let o′ = orderly-wider (roomOf l) LIMITS ts xs (room-within l) o in
+      let o′ = orderly-wider (feedRoom l) LIMITS ts xs (room-within l) o in
       short-test (record { first-short = times-short ts xs o′; second-short = transfers-short ts xs o′ })
 
-  back : Rereads (roomOf l) ts xs (given m short)
-  back = written-reads (roomOf l) ts xs (room-countable l) o
+  back : Rereads (feedRoom l) ts xs (given m short)
+  back = written-reads (feedRoom l) ts xs (room-countable l) o
 
   text-says : AnswersWith r 0 0 0
   unfolding numberFor lineFor fileFor
   text-says =
-      let s = told-says (splitOf (roomOf l) (writeTimes ts)) (given m short) (short-told m short) in
+      let s = told-says (splitOf (feedRoom l) (writeTimes ts)) (given m short) (short-told m short) in
       rw (back .ended) at s
 
   split-named : r .split ≡ stopsIn w
   unfolding stopsIn
-  split-named = split-told m short ∙ split-counts (roomOf l) (writeTimes ts) (writeTransfers xs) ∙ rw (back .times)
+  split-named = split-told m short ∙ split-counts (feedRoom l) (writeTimes ts) (writeTransfers xs) ∙ rw (back .times)
 
   pub text-gives-back : length w % 4 ≡ 0 → length x % 4 ≡ 0 → GivesBack w x r l′
   unfolding stopsIn tripsIn stopsInBoth timeRowsIn transferRowsIn

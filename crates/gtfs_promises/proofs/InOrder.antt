@@ -14,7 +14,7 @@ use Rattle.feed.proofs.Rows.{times-flat, flat-times-length, transfers-flat, fla
 use Rattle.feed.proofs.Faithful.{read-says-times, read-says-transfers}
 use Rattle.feed.proofs.Standing.{read-orderly, read-tallies, stops-once, trips-once, within-room}
 use Rattle.gtfs_read.specs.declared.Told.{Told}
-use Rattle.gtfs_read.specs.Reads.{LentFeed, roomOf, isTooLong, refusedLong, Reads}
+use Rattle.gtfs_read.specs.Reads.{LentFeed, feedRoom, isTooLong, refusedLong, Reads}
 use Rattle.gtfs_promises.specs.Answers.{BothShort}
 use Rattle.gtfs_promises.specs.Tables.{timeWordsRead, transferWordsRead, ReadUntil, stopsIn, tripsIn, stopsInBoth, InOrderRead, RightFeed}
 use Rattle.gtfs_promises.proofs.Keeps.{short-test, long-told, given, stops-told, split-told, trips-told, times-told, transfers-told, read-holds}
@@ -52,20 +52,20 @@ module _ {a b : List ℕ} {l : LentFeed} {r : Told} {l′ : LentFeed} (m : Reads
     unfolding stopsIn tripsIn stopsInBoth
     short-order =
         let h = read-holds m s in
-        let t = read-tallies (roomOf l) a b in
+        let t = read-tallies (feedRoom l) a b in
         record {
-          orderly = rw (rows, paths) (read-orderly (roomOf l) a b);
+          orderly = rw (rows, paths) (read-orderly (feedRoom l) a b);
           times-long = rw (h .time-rows, times-told m s) (flat-times-length (got .times));
           transfers-long = rw (h .transfer-rows, transfers-told m s) (flat-transfers-length (got .transfers));
           stops-named = stops-told m s ∙ t .stops
               ∙ ap (λ (q : List TimeRow). afterTransfers ((afterTimes noneSeen q) .stops) (got .transfers)) (sym rows)
               ∙ ap (λ (q : List TransferRow). afterTransfers ((afterTimes noneSeen (timeRowsIn (timeWordsRead r l′))) .stops) q) (sym paths);
-          split-named = split-told m s ∙ split-counts (roomOf l) a b ∙ ap (λ (q : List TimeRow). (afterTimes noneSeen q) .stops) (sym rows);
+          split-named = split-told m s ∙ split-counts (feedRoom l) a b ∙ ap (λ (q : List TimeRow). (afterTimes noneSeen q) .stops) (sym rows);
           trips-named = trips-told m s ∙ t .trips ∙ ap (λ (q : List TimeRow). (afterTimes noneSeen q) .trips) (sym rows);
-          stops-fit = rw (stops-told m s) ((within-room (roomOf l) a b) .stops);
-          trips-fit = rw (trips-told m s) ((within-room (roomOf l) a b) .trips);
-          times-fit = rw (times-told m s) ((within-room (roomOf l) a b) .times);
-          transfers-fit = rw (transfers-told m s) ((within-room (roomOf l) a b) .transfers);
+          stops-fit = rw (stops-told m s) ((within-room (feedRoom l) a b) .stops);
+          trips-fit = rw (trips-told m s) ((within-room (feedRoom l) a b) .trips);
+          times-fit = rw (times-told m s) ((within-room (feedRoom l) a b) .times);
+          transfers-fit = rw (transfers-told m s) ((within-room (feedRoom l) a b) .transfers);
         }
 
   no-times : r ≡ refusedLong → timeWordsRead r l′ ≡ []
@@ -86,7 +86,7 @@ module _ {a b : List ℕ} {l : LentFeed} {r : Told} {l′ : LentFeed} (m : Reads
       let q : r .split ≡ 0 = ap (λ (x : Told). x .split) e in
       let v : r .trips ≡ 0 = ap (λ (x : Told). x .trips) e in
       record {
-        orderly = rw (no-times e, no-transfers e) (none-orderly (roomOf l));
+        orderly = rw (no-times e, no-transfers e) (none-orderly (feedRoom l));
         times-long = rw (no-times e) (omega (arith, t));
         transfers-long = rw (no-transfers e) (omega (arith, p));
         stops-named = rw (no-times e, no-transfers e, none-stops) n;
@@ -102,19 +102,19 @@ module _ {a b : List ℕ} {l : LentFeed} {r : Told} {l′ : LentFeed} (m : Reads
   read-in-order = split (isTooLong a b) long-order short-order
 
   -- what is left of files that are not too long: rows that say their lines, and nothing else is touched
-  pub read-leaves : BothShort a b → ReadUntil (RightFeed (roomOf l) a b) a b l r l′
+  pub read-leaves : BothShort a b → ReadUntil (RightFeed (feedRoom l) a b) a b l r l′
   read-leaves h =
       let s = short-test h in
       record {
         short = h;
         feed = (given m s) .feed;
         how = record {
-          time-lines = read-says-times (roomOf l) a b;
-          transfer-lines = read-says-transfers (roomOf l) a b;
-          rows-orderly = read-orderly (roomOf l) a b;
-          stops-once = stops-once (roomOf l) a b;
-          trips-once = trips-once (roomOf l) a b;
-          in-room = within-room (roomOf l) a b;
+          time-lines = read-says-times (feedRoom l) a b;
+          transfer-lines = read-says-transfers (feedRoom l) a b;
+          rows-orderly = read-orderly (feedRoom l) a b;
+          stops-once = stops-once (feedRoom l) a b;
+          trips-once = trips-once (feedRoom l) a b;
+          in-room = within-room (feedRoom l) a b;
         };
         left = read-holds m s;
       }

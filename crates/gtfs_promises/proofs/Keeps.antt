@@ -17,7 +17,7 @@ use Rattle.feed.specs.Rows.{flatTimes, flatTransfers}
 use Rattle.feed.proofs.Rows.{flat-times-length, flat-transfers-length}
 use Rattle.feed.proofs.Standing.{within-room}
 use Rattle.gtfs_read.specs.declared.Told.{Told}
-use Rattle.gtfs_read.specs.Reads.{LentFeed, roomOf, isTooLong, toldBy, splitOf, refusedLong, toldFeed, stopsShelf, tripsShelf, Left, Reads}
+use Rattle.gtfs_read.specs.Reads.{LentFeed, feedRoom, isTooLong, toldBy, splitOf, refusedLong, toldFeed, stopsShelf, tripsShelf, Left, Reads}
 use Rattle.gtfs_promises.specs.Answers.{TooLong, first-long, second-long, BothShort}
 use Rattle.gtfs_promises.specs.Tables.{timeWordsRead, transferWordsRead, stopBook, tripBook, Holds}
 use Rattle.gtfs_promises.proofs.Rooms.{rows-inside}
@@ -71,9 +71,9 @@ module _ {a b : List ℕ} {l : LentFeed} {r : Told} {l′ : LentFeed} (m : Reads
   module _ (short : isTooLong a b ≡ false) where
     -- what the files give
     abbrev pub given : Got
-    given = readFeed (roomOf l) a b
+    given = readFeed (feedRoom l) a b
 
-    pub short-told : r ≡ toldBy (splitOf (roomOf l) a) given
+    pub short-told : r ≡ toldBy (splitOf (feedRoom l) a) given
     unfolding toldFeed
     short-told = m .said ∙ rw short
 
@@ -82,7 +82,7 @@ module _ {a b : List ℕ} {l : LentFeed} {r : Told} {l′ : LentFeed} (m : Reads
     unfolding toldBy
     stops-told = ap (λ (x : Told). x .stops) short-told
 
-    pub split-told : r .split ≡ splitOf (roomOf l) a
+    pub split-told : r .split ≡ splitOf (feedRoom l) a
     unfolding toldBy
     split-told = ap (λ (x : Told). x .split) short-told
 
@@ -98,24 +98,24 @@ module _ {a b : List ℕ} {l : LentFeed} {r : Told} {l′ : LentFeed} (m : Reads
     unfolding toldBy
     transfers-told = ap (λ (x : Told). x .transfers) short-told
 
-    left : Left (roomOf l) a b given l l′
+    left : Left (feedRoom l) a b given l l′
     left = m .read short
 
-    pub stop-shelf : stopsShelf (roomOf l) (splitOf (roomOf l) a) given ≡ stopBook l r
+    pub stop-shelf : stopsShelf (feedRoom l) (splitOf (feedRoom l) a) given ≡ stopBook l r
     unfolding stopsShelf stopBook
     stop-shelf = rw (← stops-told, ← split-told)
 
-    pub trip-shelf : tripsShelf (roomOf l) given ≡ tripBook l r
+    pub trip-shelf : tripsShelf (feedRoom l) given ≡ tripBook l r
     unfolding tripsShelf tripBook
     trip-shelf = rw (← trips-told)
 
     times-fit : 4 * length (given .feed .times) ≤ length (l .times)
-    unfolding roomOf
-    times-fit = omega (arith, (within-room (roomOf l) a b) .times, rows-inside (l .times) 262_144)
+    unfolding feedRoom
+    times-fit = omega (arith, (within-room (feedRoom l) a b) .times, rows-inside (l .times) 262_144)
 
     transfers-fit : 4 * length (given .feed .transfers) ≤ length (l .transfers)
-    unfolding roomOf
-    transfers-fit = omega (arith, (within-room (roomOf l) a b) .transfers, rows-inside (l .transfers) 16_384)
+    unfolding feedRoom
+    transfers-fit = omega (arith, (within-room (feedRoom l) a b) .transfers, rows-inside (l .transfers) 16_384)
 
     pub read-holds : Holds a b l r l′ (given .feed)
     unfolding timeWordsRead transferWordsRead stopsShelf tripsShelf

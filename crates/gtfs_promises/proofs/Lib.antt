@@ -11,4 +11,5 @@ pub mod Wrote
 pub mod Takes
 pub mod Back
 pub mod Witness
+pub mod Worked
 pub mod Rewritten

@@ -6,16 +6,17 @@ use mathlib.Core.Bool.{true, false}
 use mathlib.Core.List.{List, []}
 use native.Mathlib.Omega.{arith}
 use lib.ListN.{length, getD}
+use borrow.Author.Tests.{le-ltb}
 use Rattle.base.proofs.Choice.{split}
-use Rattle.names.specs.Book.{nameAt}
+use Rattle.names.specs.Book.{fileOf, nameAt, Book}
 use Rattle.names.proofs.Booking.{booked-name}
 use Rattle.feed.specs.Reading.{readFeed}
 use Rattle.feed.specs.Undoubled.{undoubled, StandApart}
 use Rattle.feed.proofs.Apart.{stops-apart, trips-apart}
 use Rattle.gtfs_read.specs.declared.Told.{Told}
-use Rattle.gtfs_read.specs.Reads.{LentFeed, roomOf, isTooLong, refusedLong, stopsShelf, tripsShelf, Reads}
+use Rattle.gtfs_read.specs.Reads.{LentFeed, feedRoom, isTooLong, refusedLong, stopsShelf, tripsShelf, Reads}
 use Rattle.gtfs_promises.specs.Answers.{BothShort}
-use Rattle.gtfs_promises.specs.Tables.{stopBook, tripBook}
+use Rattle.gtfs_promises.specs.Tables.{stopBook, tripBook, StandsIn}
 use Rattle.gtfs_promises.proofs.Keeps.{short-test, long-told, given, stops-told, trips-told, stop-shelf, trip-shelf}
 
 -- texts of different names are different
@@ -45,12 +46,29 @@ module _ {a b : List ℕ} {l : LentFeed} {r : Told} {l′ : LentFeed} (m : Reads
   -- ---- the promises
   -- the text at the book's place i is the i-th name
   pub stop-name : BothShort a b → (i : ℕ) → i < r .stops
-      → nameAt a b (stopBook l r) (l′ .stops) i ≡ getD ((readFeed (roomOf l) a b) .feed .stops) i []
+      → nameAt a b (stopBook l r) (l′ .stops) i ≡ getD ((readFeed (feedRoom l) a b) .feed .stops) i []
   stop-name h = stop-text (short-test h)
 
   pub trip-name : BothShort a b → (i : ℕ) → i < r .trips
-      → nameAt a a (tripBook l r) (l′ .trips) i ≡ getD ((readFeed (roomOf l) a b) .feed .trips) i []
+      → nameAt a a (tripBook l r) (l′ .trips) i ≡ getD ((readFeed (feedRoom l) a b) .feed .trips) i []
   trip-name h = trip-text (short-test h)
+
+  -- and that place is inside the file
+  pub stop-place : (i : ℕ) → i < r .stops → StandsIn (fileOf a b (r .split) i) ((feedRoom l) .stops) (l′ .stops) i
+  unfolding stopBook
+  stop-place i h =
+      split (isTooLong a b)
+      (λ s. absurd (omega (arith, no-stops s)))
+      (λ s. let k : Book a b (stopBook l r) (l′ .stops) = rw (← stop-shelf m s) ((m .read s) .stops-left .book) in
+      record { ordered = k .ordered i h; inside = k .inside i h })
+
+  pub trip-place : (i : ℕ) → i < r .trips → StandsIn a ((feedRoom l) .trips) (l′ .trips) i
+  unfolding tripBook fileOf
+  trip-place i h =
+      split (isTooLong a b)
+      (λ s. absurd (omega (arith, no-trips s)))
+      (λ s. let k : Book a a (tripBook l r) (l′ .trips) = rw (← trip-shelf m s) ((m .read s) .trips-left .book) in
+      record { ordered = k .ordered i h; inside = rw (le-ltb i 0 (omega arith)) at (k .inside i h) })
 
   -- two stops, or two trips, with the same text are the same, also where a doubled quote is read as one
   pub stops-differ : (i j : ℕ) → i < r .stops → j < r .stops
@@ -58,7 +76,7 @@ module _ {a b : List ℕ} {l : LentFeed} {r : Told} {l′ : LentFeed} (m : Reads
   stops-differ i j h k e =
       split (isTooLong a b)
       (λ s. absurd (omega (arith, no-stops s)))
-      (λ s. texts-differ ((given m s) .feed .stops) (stops-apart (roomOf l) a b) (nameAt a b (stopBook l r) (l′ .stops))
+      (λ s. texts-differ ((given m s) .feed .stops) (stops-apart (feedRoom l) a b) (nameAt a b (stopBook l r) (l′ .stops))
       (stops-told m s) (stop-text s) i j h k e)
 
   pub trips-differ : (i j : ℕ) → i < r .trips → j < r .trips
@@ -66,5 +84,5 @@ module _ {a b : List ℕ} {l : LentFeed} {r : Told} {l′ : LentFeed} (m : Reads
   trips-differ i j h k e =
       split (isTooLong a b)
       (λ s. absurd (omega (arith, no-trips s)))
-      (λ s. texts-differ ((given m s) .feed .trips) (trips-apart (roomOf l) a b) (nameAt a a (tripBook l r) (l′ .trips))
+      (λ s. texts-differ ((given m s) .feed .trips) (trips-apart (feedRoom l) a b) (nameAt a a (tripBook l r) (l′ .trips))
       (trips-told m s) (trip-text s) i j h k e)

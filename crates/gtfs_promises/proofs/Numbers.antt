@@ -13,8 +13,8 @@ use Rattle.feed.specs.Refused.{Ends, ends-done, ends-bad-times, ends-bad-transf
 use Rattle.feed.proofs.Meaning.{read-ends}
 use Rattle.feed.proofs.Exactly.{ends-exactly}
 use Rattle.gtfs_read.specs.declared.Told.{Told}
-use Rattle.gtfs_read.specs.Reads.{LentFeed, roomOf, isTooLong, numberFor, lineFor, fileFor, toldBy, splitOf, refusedLong, Reads}
-use Rattle.gtfs_promises.specs.Answers.{TooLong, AnswersWith, Answers, all-read, file-too-long, stop-times-line-bad, transfers-line-bad, table-full}
+use Rattle.gtfs_read.specs.Reads.{LentFeed, feedRoom, isTooLong, numberFor, lineFor, fileFor, toldBy, splitOf, refusedLong, Reads}
+use Rattle.gtfs_promises.specs.Answers.{TooLong, BothShort, AnswersWith, Answers, all-read, file-too-long, stop-times-line-bad, transfers-line-bad, table-full}
 use Rattle.gtfs_promises.specs.Tables.{Holds, ReadUntil}
 use Rattle.gtfs_promises.proofs.Keeps.{long-test, short-test, test-long, test-short, long-told, short-told, read-holds}
 
@@ -29,27 +29,27 @@ told-says split g e = record {
 
 -- the five answers, each with what it means
 data Meant (a b : List ℕ) (l : LentFeed) (r : Told) (l′ : LentFeed) : Type 0 where
-  meant-done : AnswersWith r 0 0 0 → ReadUntil (AllTaken (roomOf l) a b) a b l r l′ → Meant a b l r l′
+  meant-done : AnswersWith r 0 0 0 → ReadUntil (AllTaken (feedRoom l) a b) a b l r l′ → Meant a b l r l′
   meant-long : AnswersWith r 1 0 0 → TooLong a b → l′ ≡ l → Meant a b l r l′
-  meant-times : {k : ℕ} → AnswersWith r 14 k 1 → ReadUntil (BadInTimes (roomOf l) a k) a b l r l′ → Meant a b l r l′
-  meant-transfers : {k : ℕ} → AnswersWith r 14 k 2 → ReadUntil (BadInTransfers (roomOf l) a b k) a b l r l′ → Meant a b l r l′
-  meant-full : AnswersWith r 15 0 0 → ReadUntil (FullAt (roomOf l) a b) a b l r l′ → Meant a b l r l′
+  meant-times : {k : ℕ} → AnswersWith r 14 k 1 → ReadUntil (BadInTimes (feedRoom l) a k) a b l r l′ → Meant a b l r l′
+  meant-transfers : {k : ℕ} → AnswersWith r 14 k 2 → ReadUntil (BadInTransfers (feedRoom l) a b k) a b l r l′ → Meant a b l r l′
+  meant-full : AnswersWith r 15 0 0 → ReadUntil (FullAt (feedRoom l) a b) a b l r l′ → Meant a b l r l′
 
 module _ {a b : List ℕ} {l : LentFeed} {r : Told} {l′ : LentFeed} (m : Reads a b l r l′) where
-  short-means : isTooLong a b ≡ false → {g : Got} → Ends (roomOf l) a b g → r ≡ toldBy (splitOf (roomOf l) a) g → Holds a b l r l′ (g .feed)
+  short-means : isTooLong a b ≡ false → {g : Got} → Ends (feedRoom l) a b g → r ≡ toldBy (splitOf (feedRoom l) a) g → Holds a b l r l′ (g .feed)
       → Meant a b l r l′
   unfolding numberFor lineFor fileFor
   short-means s (ends-done {f} x) e h =
-      meant-done (told-says (splitOf (roomOf l) a) (record { feed = f; end = done }) e)
+      meant-done (told-says (splitOf (feedRoom l) a) (record { feed = f; end = done }) e)
       (record { short = test-short s; feed = f; how = x; left = h })
   short-means s (ends-bad-times {k} {f} x) e h =
-      meant-times (told-says (splitOf (roomOf l) a) (record { feed = f; end = badTimes k }) e)
+      meant-times (told-says (splitOf (feedRoom l) a) (record { feed = f; end = badTimes k }) e)
       (record { short = test-short s; feed = f; how = x; left = h })
   short-means s (ends-bad-transfers {k} {f} x) e h =
-      meant-transfers (told-says (splitOf (roomOf l) a) (record { feed = f; end = badTransfers k }) e)
+      meant-transfers (told-says (splitOf (feedRoom l) a) (record { feed = f; end = badTransfers k }) e)
       (record { short = test-short s; feed = f; how = x; left = h })
   short-means s (ends-full {f} x) e h =
-      meant-full (told-says (splitOf (roomOf l) a) (record { feed = f; end = full }) e)
+      meant-full (told-says (splitOf (feedRoom l) a) (record { feed = f; end = full }) e)
       (record { short = test-short s; feed = f; how = x; left = h })
 
   long-says : isTooLong a b ≡ true → AnswersWith r 1 0 0
@@ -64,14 +64,15 @@ module _ {a b : List ℕ} {l : LentFeed} {r : Told} {l′ : LentFeed} (m : Reads
   meaning =
       split (isTooLong a b)
       (λ s. meant-long (long-says s) (test-long s) (m .refused s))
-      (λ s. short-means s (read-ends (roomOf l) a b) (short-told m s) (read-holds m s))
+      (λ s. short-means s (read-ends (feedRoom l) a b) (short-told m s) (read-holds m s))
 
-  -- the other way: files that end so are answered so
-  ended-says : {P : Feed → Type 0} (x : ReadUntil P a b l r l′) {g : Got} → Ends (roomOf l) a b g
-      → AnswersWith r (numberFor (g .end)) (lineFor (g .end)) (fileFor (g .end))
-  ended-says x {g} y =
-      told-says (splitOf (roomOf l) a) g
-      (short-told m (short-test (x .short)) ∙ ap (toldBy (splitOf (roomOf l) a)) (ends-exactly (roomOf l) a b y))
+  -- the other way: files that end so are answered so, and what was taken until then is left
+  ended-says : BothShort a b → {g : Got} → Ends (feedRoom l) a b g
+      → AnswersWith r (numberFor (g .end)) (lineFor (g .end)) (fileFor (g .end)) × Holds a b l r l′ (g .feed)
+  ended-says s {g} y =
+      let e = ends-exactly (feedRoom l) a b y in
+      (told-says (splitOf (feedRoom l) a) g (short-told m (short-test s) ∙ ap (toldBy (splitOf (feedRoom l) a)) e),
+      rw e at (read-holds m (short-test s)))
 
   -- ---- the promises
   -- r's number is 0, 1, 14 or 15; a line and a file stand beside 14 alone
@@ -104,11 +105,11 @@ module _ {a b : List ℕ} {l : LentFeed} {r : Told} {l′ : LentFeed} (m : Reads
   long-nothing t = long-told m (long-test t)
 
   -- 0: exactly where every line of both files was taken
-  pub number-0 : AnswersWith r 0 0 0 ↔ ReadUntil (AllTaken (roomOf l) a b) a b l r l′
+  pub number-0 : AnswersWith r 0 0 0 ↔ ReadUntil (AllTaken (feedRoom l) a b) a b l r l′
   unfolding numberFor lineFor fileFor
-  number-0 = (λ s. go s meaning, λ x. ended-says x (ends-done (x .how)))
+  number-0 = (λ s. go s meaning, λ x. ended-says (x .short) (ends-done (x .how)) .0)
     where
-      go : AnswersWith r 0 0 0 → Meant a b l r l′ → ReadUntil (AllTaken (roomOf l) a b) a b l r l′
+      go : AnswersWith r 0 0 0 → Meant a b l r l′ → ReadUntil (AllTaken (feedRoom l) a b) a b l r l′
       go s (meant-done t x) = x
       go s (meant-long t x e) = absurd (omega (arith, s .number-is, t .number-is))
       go s (meant-times t x) = absurd (omega (arith, s .number-is, t .number-is))
@@ -116,11 +117,11 @@ module _ {a b : List ℕ} {l : LentFeed} {r : Told} {l′ : LentFeed} (m : Reads
       go s (meant-full t x) = absurd (omega (arith, s .number-is, t .number-is))
 
   -- 14: exactly where line k of stop_times.txt is bad, for a listed reason, and every line before it was taken
-  pub number-14-times : {k : ℕ} → AnswersWith r 14 k 1 ↔ ReadUntil (BadInTimes (roomOf l) a k) a b l r l′
+  pub number-14-times : {k : ℕ} → AnswersWith r 14 k 1 ↔ ReadUntil (BadInTimes (feedRoom l) a k) a b l r l′
   unfolding numberFor lineFor fileFor
-  number-14-times {k} = (λ s. go s meaning, λ x. ended-says x (ends-bad-times (x .how)))
+  number-14-times {k} = (λ s. go s meaning, λ x. ended-says (x .short) (ends-bad-times (x .how)) .0)
     where
-      go : AnswersWith r 14 k 1 → Meant a b l r l′ → ReadUntil (BadInTimes (roomOf l) a k) a b l r l′
+      go : AnswersWith r 14 k 1 → Meant a b l r l′ → ReadUntil (BadInTimes (feedRoom l) a k) a b l r l′
       go s (meant-done t x) = absurd (omega (arith, s .number-is, t .number-is))
       go s (meant-long t x e) = absurd (omega (arith, s .number-is, t .number-is))
       go s (meant-times {k = j} t x) = let z : j ≡ k = sym (t .line-is) ∙ s .line-is in rw (← z) x
@@ -128,11 +129,11 @@ module _ {a b : List ℕ} {l : LentFeed} {r : Told} {l′ : LentFeed} (m : Reads
       go s (meant-full t x) = absurd (omega (arith, s .number-is, t .number-is))
 
   -- 14 of transfers.txt: stop_times.txt was read to its end
-  pub number-14-transfers : {k : ℕ} → AnswersWith r 14 k 2 ↔ ReadUntil (BadInTransfers (roomOf l) a b k) a b l r l′
+  pub number-14-transfers : {k : ℕ} → AnswersWith r 14 k 2 ↔ ReadUntil (BadInTransfers (feedRoom l) a b k) a b l r l′
   unfolding numberFor lineFor fileFor
-  number-14-transfers {k} = (λ s. go s meaning, λ x. ended-says x (ends-bad-transfers (x .how)))
+  number-14-transfers {k} = (λ s. go s meaning, λ x. ended-says (x .short) (ends-bad-transfers (x .how)) .0)
     where
-      go : AnswersWith r 14 k 2 → Meant a b l r l′ → ReadUntil (BadInTransfers (roomOf l) a b k) a b l r l′
+      go : AnswersWith r 14 k 2 → Meant a b l r l′ → ReadUntil (BadInTransfers (feedRoom l) a b k) a b l r l′
       go s (meant-done t x) = absurd (omega (arith, s .number-is, t .number-is))
       go s (meant-long t x e) = absurd (omega (arith, s .number-is, t .number-is))
       go s (meant-times t x) = absurd (omega (arith, s .file-is, t .file-is))
@@ -140,13 +141,31 @@ module _ {a b : List ℕ} {l : LentFeed} {r : Told} {l′ : LentFeed} (m : Reads
       go s (meant-full t x) = absurd (omega (arith, s .number-is, t .number-is))
 
   -- 15: exactly where the next line is right and a table has no room for it
-  pub number-15 : AnswersWith r 15 0 0 ↔ ReadUntil (FullAt (roomOf l) a b) a b l r l′
+  pub number-15 : AnswersWith r 15 0 0 ↔ ReadUntil (FullAt (feedRoom l) a b) a b l r l′
   unfolding numberFor lineFor fileFor
-  number-15 = (λ s. go s meaning, λ x. ended-says x (ends-full (x .how)))
+  number-15 = (λ s. go s meaning, λ x. ended-says (x .short) (ends-full (x .how)) .0)
     where
-      go : AnswersWith r 15 0 0 → Meant a b l r l′ → ReadUntil (FullAt (roomOf l) a b) a b l r l′
+      go : AnswersWith r 15 0 0 → Meant a b l r l′ → ReadUntil (FullAt (feedRoom l) a b) a b l r l′
       go s (meant-done t x) = absurd (omega (arith, s .number-is, t .number-is))
       go s (meant-long t x e) = absurd (omega (arith, s .number-is, t .number-is))
       go s (meant-times t x) = absurd (omega (arith, s .number-is, t .number-is))
       go s (meant-transfers t x) = absurd (omega (arith, s .number-is, t .number-is))
       go s (meant-full t x) = x
+
+  -- ---- and so files alone decide the number, and what is left: nothing need be known of what was read
+  pub taken-answered : {f : Feed} → BothShort a b → AllTaken (feedRoom l) a b f → AnswersWith r 0 0 0 × Holds a b l r l′ f
+  unfolding numberFor lineFor fileFor
+  taken-answered s x = ended-says s (ends-done x)
+
+  pub bad-times-answered : {k : ℕ} {f : Feed} → BothShort a b → BadInTimes (feedRoom l) a k f → AnswersWith r 14 k 1 × Holds a b l r l′ f
+  unfolding numberFor lineFor fileFor
+  bad-times-answered s x = ended-says s (ends-bad-times x)
+
+  pub bad-transfers-answered : {k : ℕ} {f : Feed} → BothShort a b → BadInTransfers (feedRoom l) a b k f
+      → AnswersWith r 14 k 2 × Holds a b l r l′ f
+  unfolding numberFor lineFor fileFor
+  bad-transfers-answered s x = ended-says s (ends-bad-transfers x)
+
+  pub full-answered : {f : Feed} → BothShort a b → FullAt (feedRoom l) a b f → AnswersWith r 15 0 0 × Holds a b l r l′ f
+  unfolding numberFor lineFor fileFor
+  full-answered s x = ended-says s (ends-full x)

@@ -9,7 +9,7 @@ use lib.ListN.{length}
 use borrow.Author.Tests.{leb-true, leb-false}
 use Rattle.base.proofs.Choice.{split}
 use Rattle.feed.specs.Promised.{Countable, Wider}
-use Rattle.gtfs_read.specs.Reads.{LentFeed, rowsOf, roomOf}
+use Rattle.gtfs_read.specs.Reads.{LentFeed, rowsOf, feedRoom}
 use Rattle.gtfs_write.specs.Written.{LIMITS}
 use Rattle.gtfs_promises.specs.Tables.{SameSizes, FullSize}
 
@@ -37,8 +37,8 @@ unfolding rowsOf
 rows-same v w most e = rw e
 
 module _ (l : LentFeed) where
-  pub room-within : Wider (roomOf l) LIMITS
-  unfolding roomOf
+  pub room-within : Wider (feedRoom l) LIMITS
+  unfolding feedRoom
   room-within = record {
     stops = rows-most (l .stops) 4_096;
     trips = rows-most (l .trips) 16_384;
@@ -46,7 +46,7 @@ module _ (l : LentFeed) where
     transfers = rows-most (l .transfers) 16_384;
   }
 
-  pub room-countable : Countable (roomOf l)
+  pub room-countable : Countable (feedRoom l)
   room-countable =
       let w = room-within in
       record {
@@ -56,8 +56,8 @@ module _ (l : LentFeed) where
         transfers = omega (arith, w .transfers);
       }
 
-  pub full-room : FullSize l → roomOf l ≡ LIMITS
-  unfolding roomOf
+  pub full-room : FullSize l → feedRoom l ≡ LIMITS
+  unfolding feedRoom
   full-room h =
       rw (
         rows-all (l .stops) 4_096 (h .stops-room),
@@ -66,8 +66,8 @@ module _ (l : LentFeed) where
         rows-all (l .transfers) 16_384 (h .transfers-room),
       )
 
-  pub same-room : {m : LentFeed} → SameSizes l m → roomOf m ≡ roomOf l
-  unfolding roomOf
+  pub same-room : {m : LentFeed} → SameSizes l m → feedRoom m ≡ feedRoom l
+  unfolding feedRoom
   same-room {m} h =
       rw (
         rows-same (m .stops) (l .stops) 4_096 (h .stops-size),

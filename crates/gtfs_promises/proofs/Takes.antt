@@ -12,7 +12,7 @@ use Rattle.feed.specs.Rows.{timeRowsIn, transferRowsIn}
 use Rattle.feed.specs.Writing.{writeTimes, writeTransfers}
 use Rattle.feed.proofs.Widening.{orderly-wider}
 use Rattle.gtfs_read.specs.declared.Told.{Told}
-use Rattle.gtfs_read.specs.Reads.{LentFeed, roomOf, Reads}
+use Rattle.gtfs_read.specs.Reads.{LentFeed, feedRoom, Reads}
 use Rattle.gtfs_write.specs.declared.Written.{Written}
 use Rattle.gtfs_write.specs.Written.{LIMITS, wholeRows}
 use Rattle.gtfs_write_times.specs.WrittenTimes.{writtenTimes}
@@ -37,7 +37,7 @@ module _ {a b : List ℕ} {l : LentFeed} {r : Told} {l′ : LentFeed} (m : Reads
   order = read-in-order m
 
   orderly-all : Orderly LIMITS (timeRowsIn w) (transferRowsIn x)
-  orderly-all = orderly-wider (roomOf l) LIMITS (timeRowsIn w) (transferRowsIn x) (room-within l) (order .orderly)
+  orderly-all = orderly-wider (feedRoom l) LIMITS (timeRowsIn w) (transferRowsIn x) (room-within l) (order .orderly)
 
   split-right : transfersFault LIMITS (r .split) (transferRowsIn x) ≡ 0
   unfolding stopsIn transferWordsRead

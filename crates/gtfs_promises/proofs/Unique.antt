@@ -1,16 +1,21 @@
 -- The contract leaves nothing open but where a name's text stands: two readings of the same files into the same words are the same.
 -- Assumes nothing.
-use Prim.Native.Nat.{ℕ, _+_, _*_}
-use mathlib.Core.Path.{_≡_, sym, ap, _∙_}
+use Prim.Native.Nat.{ℕ}
+use mathlib.Core.Path.{_≡_, refl, sym, ap, _∙_}
 use mathlib.Core.Bool.{true, false}
 use mathlib.Core.List.{List}
-use lib.ListN.{length, drop}
 use Rattle.base.proofs.Choice.{split}
+use Rattle.names.specs.declared.Shelf.{Shelf}
 use Rattle.names.specs.Book.{namesIn}
+use Rattle.names.specs.Booked.{SameBook}
+use Rattle.names.proofs.Booking.{booked-same}
 use Rattle.gtfs_read.specs.declared.Told.{Told}
-use Rattle.gtfs_read.specs.Reads.{LentFeed, roomOf, isTooLong, Reads}
+use Rattle.gtfs_read.specs.Reads.{LentFeed, isTooLong, Reads}
 use Rattle.gtfs_promises.specs.Tables.{stopBook, tripBook, SameRead}
-use Rattle.gtfs_promises.proofs.Keeps.{read-holds}
+use Rattle.gtfs_promises.proofs.Keeps.{read-holds, stop-shelf, trip-shelf}
+
+itself : {shelf : Shelf} {w : List ℕ} → SameBook shelf w w
+itself = record { same-heads = λ b h. refl; same-nexts = λ i h. refl; same-behind = refl; same-length = refl }
 
 module _ {a b : List ℕ} {l : LentFeed} {r : Told} {l′ : LentFeed} (m : Reads a b l r l′) {q : Told} {k′ : LentFeed} (n : Reads a b l q k′) where
   answer : r ≡ q
@@ -27,10 +32,8 @@ module _ {a b : List ℕ} {l : LentFeed} {r : Told} {l′ : LentFeed} (m : Reads
             ∙ ap (λ (x : Told). namesIn a b (stopBook l x) (k′ .stops)) answer;
         same-trip-names = ap (λ (x : LentFeed). namesIn a a (tripBook l r) (x .trips)) e
             ∙ ap (λ (x : Told). namesIn a a (tripBook l x) (k′ .trips)) answer;
-        same-behind-stops = ap (λ (x : LentFeed). drop ((roomOf l) .stops + 3 * r .stops) (x .stops)) e;
-        same-behind-trips = ap (λ (x : LentFeed). drop ((roomOf l) .trips + 3 * r .trips) (x .trips)) e;
-        same-stops-long = ap (λ (x : LentFeed). length (x .stops)) e;
-        same-trips-long = ap (λ (x : LentFeed). length (x .trips)) e;
+        same-stop-book = rw e itself;
+        same-trip-book = rw e itself;
       }
 
   short-same : isTooLong a b ≡ false → SameRead a b l r l′ q k′
@@ -45,10 +48,8 @@ module _ {a b : List ℕ} {l : LentFeed} {r : Told} {l′ : LentFeed} (m : Reads
         same-transfers-table = u .transfers-left ∙ sym (v .transfers-left);
         same-stop-names = h .stop-names ∙ sym (g .stop-names);
         same-trip-names = h .trip-names ∙ sym (g .trip-names);
-        same-behind-stops = h .behind-stops ∙ sym (rw (← answer) at (g .behind-stops));
-        same-behind-trips = h .behind-trips ∙ sym (rw (← answer) at (g .behind-trips));
-        same-stops-long = u .stops-left .long ∙ sym (v .stops-left .long);
-        same-trips-long = u .trips-left .long ∙ sym (v .trips-left .long);
+        same-stop-book = rw (← stop-shelf m s) (booked-same (u .stops-left) (v .stops-left));
+        same-trip-book = rw (← trip-shelf m s) (booked-same (u .trips-left) (v .trips-left));
       }
 
   pub read-once : SameRead a b l r l′ q k′

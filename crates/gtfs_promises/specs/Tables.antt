@@ -5,7 +5,8 @@ use mathlib.Core.List.{List}
 use lib.ListN.{length, take, drop}
 use Rattle.model.specs.Limits.{MOST-STOPS, MOST-TRIPS, MOST-STOP-TIMES, MOST-TRANSFERS}
 use Rattle.names.specs.declared.Shelf.{Shelf}
-use Rattle.names.specs.Book.{namesIn}
+use Rattle.names.specs.Book.{startAt, endAt, namesIn}
+use Rattle.names.specs.Booked.{SameBook}
 use Rattle.csv.specs.Lines.{lines}
 use Rattle.feed.specs.declared.Room.{Room}
 use Rattle.feed.specs.Feed.{Feed}
@@ -16,7 +17,7 @@ use Rattle.feed.specs.Orderly.{noneSeen, afterTimes, afterTransfers, Orderly}
 use Rattle.feed.specs.Rows.{timeRowsIn, flatTimes, transferRowsIn, flatTransfers}
 use Rattle.feed.specs.Writing.{writeTimes, writeTransfers}
 use Rattle.gtfs_read.specs.declared.Told.{Told}
-use Rattle.gtfs_read.specs.Reads.{LentFeed, roomOf}
+use Rattle.gtfs_read.specs.Reads.{LentFeed, feedRoom}
 use Rattle.gtfs_write.specs.declared.Written.{Written}
 use Rattle.gtfs_write.specs.declared.Written.the-variants.{Bytes, Refused}
 use Rattle.gtfs_write.specs.Written.{heldAfter}
@@ -34,10 +35,15 @@ transferWordsRead r l = take (4 * r .transfers) (l .transfers)
 
 -- the books, by what was lent and what was answered
 unfoldable pub stopBook : LentFeed → Told → Shelf
-stopBook l r = record { cap = (roomOf l) .stops; split = r .split; count = r .stops }
+stopBook l r = record { cap = (feedRoom l) .stops; split = r .split; count = r .stops }
 
 unfoldable pub tripBook : LentFeed → Told → Shelf
-tripBook l r = record { cap = (roomOf l) .trips; split = 0; count = r .trips }
+tripBook l r = record { cap = (feedRoom l) .trips; split = 0; count = r .trips }
+
+-- the place of name i in a book with so many heads is one of the file
+pub record StandsIn (file : List ℕ) (cap : ℕ) (book : List ℕ) (i : ℕ) : Type 0 where
+  pub ordered : startAt cap book i ≤ endAt cap book i
+  pub inside : endAt cap book i ≤ length file
 
 -- the tables and the books hold the feed f, and behind it all is as it was
 pub record Holds (a b : List ℕ) (l : LentFeed) (r : Told) (l′ : LentFeed) (f : Feed) : Type 0 where
@@ -51,8 +57,8 @@ pub record Holds (a b : List ℕ) (l : LentFeed) (r : Told) (l′ : LentFeed) (f
   pub trip-names : namesIn a a (tripBook l r) (l′ .trips) ≡ f .trips
   pub behind-times : drop (4 * r .times) (l′ .times) ≡ drop (4 * r .times) (l .times)
   pub behind-transfers : drop (4 * r .transfers) (l′ .transfers) ≡ drop (4 * r .transfers) (l .transfers)
-  pub behind-stops : drop ((roomOf l) .stops + 3 * r .stops) (l′ .stops) ≡ drop ((roomOf l) .stops + 3 * r .stops) (l .stops)
-  pub behind-trips : drop ((roomOf l) .trips + 3 * r .trips) (l′ .trips) ≡ drop ((roomOf l) .trips + 3 * r .trips) (l .trips)
+  pub behind-stops : drop ((feedRoom l) .stops + 3 * r .stops) (l′ .stops) ≡ drop ((feedRoom l) .stops + 3 * r .stops) (l .stops)
+  pub behind-trips : drop ((feedRoom l) .trips + 3 * r .trips) (l′ .trips) ≡ drop ((feedRoom l) .trips + 3 * r .trips) (l .trips)
 
 -- both files could be read, and P is how they were: what was taken until then is left
 pub record ReadUntil (P : Feed → Type 0) (a b : List ℕ) (l : LentFeed) (r : Told) (l′ : LentFeed) : Type 0 where
@@ -125,16 +131,16 @@ pub record FullSize (l : LentFeed) : Type 0 where
 
 -- the rows that were read, and what the answer says of them
 pub record InOrderRead (l : LentFeed) (r : Told) (l′ : LentFeed) : Type 0 where
-  pub orderly : Orderly (roomOf l) (timeRowsIn (timeWordsRead r l′)) (transferRowsIn (transferWordsRead r l′))
+  pub orderly : Orderly (feedRoom l) (timeRowsIn (timeWordsRead r l′)) (transferRowsIn (transferWordsRead r l′))
   pub times-long : length (timeWordsRead r l′) ≡ 4 * r .times
   pub transfers-long : length (transferWordsRead r l′) ≡ 4 * r .transfers
   pub stops-named : r .stops ≡ stopsInBoth (timeWordsRead r l′) (transferWordsRead r l′)
   pub split-named : r .split ≡ stopsIn (timeWordsRead r l′)
   pub trips-named : r .trips ≡ tripsIn (timeWordsRead r l′)
-  pub stops-fit : r .stops ≤ (roomOf l) .stops
-  pub trips-fit : r .trips ≤ (roomOf l) .trips
-  pub times-fit : r .times ≤ (roomOf l) .times
-  pub transfers-fit : r .transfers ≤ (roomOf l) .transfers
+  pub stops-fit : r .stops ≤ (feedRoom l) .stops
+  pub trips-fit : r .trips ≤ (feedRoom l) .trips
+  pub times-fit : r .times ≤ (feedRoom l) .times
+  pub transfers-fit : r .transfers ≤ (feedRoom l) .transfers
 
 -- a feed that says what the lines say, with every name once
 pub record RightFeed (room : Room) (a b : List ℕ) (f : Feed) : Type 0 where
@@ -152,7 +158,5 @@ pub record SameRead (a b : List ℕ) (l : LentFeed) (r : Told) (l′ : LentFeed)
   pub same-transfers-table : l′ .transfers ≡ k′ .transfers
   pub same-stop-names : namesIn a b (stopBook l r) (l′ .stops) ≡ namesIn a b (stopBook l q) (k′ .stops)
   pub same-trip-names : namesIn a a (tripBook l r) (l′ .trips) ≡ namesIn a a (tripBook l q) (k′ .trips)
-  pub same-behind-stops : drop ((roomOf l) .stops + 3 * r .stops) (l′ .stops) ≡ drop ((roomOf l) .stops + 3 * r .stops) (k′ .stops)
-  pub same-behind-trips : drop ((roomOf l) .trips + 3 * r .trips) (l′ .trips) ≡ drop ((roomOf l) .trips + 3 * r .trips) (k′ .trips)
-  pub same-stops-long : length (l′ .stops) ≡ length (k′ .stops)
-  pub same-trips-long : length (l′ .trips) ≡ length (k′ .trips)
+  pub same-stop-book : SameBook (stopBook l r) (l′ .stops) (k′ .stops)
+  pub same-trip-book : SameBook (tripBook l r) (l′ .trips) (k′ .trips)

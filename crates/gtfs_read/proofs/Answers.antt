@@ -1,10 +1,9 @@
 -- What is answered: by how the second file ends, for a file that is too long, and in all.
 -- Assumes nothing.
 use Prim.Native.Nat.{ℕ, _≤_, _<_}
-use mathlib.Core.Path.{_≡_, refl, sym, ap, _∙_}
-use mathlib.Core.Bool.{Bool, true, false, cond, _||_, true≢false}
+use mathlib.Core.Path.{_≡_, refl, sym, _∙_}
+use mathlib.Core.Bool.{true, false, true≢false}
 use mathlib.Core.List.{List}
-use lib.Dec.{ltb}
 use lib.ListN.{length}
 use borrow.Author.Tests.{lt-ltb, le-ltb}
 use Rattle.base.proofs.Choice.{split}
@@ -14,7 +13,7 @@ use Rattle.feed.specs.Reading.{readFeed}
 use Rattle.gtfs_times.specs.declared.TimesTold.{TimesTold}
 use Rattle.gtfs_transfers.specs.declared.TransfersTold.{TransfersTold}
 use Rattle.gtfs_read.specs.declared.Told.{Told}
-use Rattle.gtfs_read.specs.Reads.{LentFeed, lentFeed, roomOf, isTooLong, toldBy, splitOf, refusedLong, toldFeed, Left, Reads}
+use Rattle.gtfs_read.specs.Reads.{LentFeed, lentFeed, feedRoom, isTooLong, toldBy, splitOf, refusedLong, toldFeed, Left, Reads}
 use Rattle.gtfs_read.specs.Parts.{bothTold, toldUnder, toldOfBoth}
 
 module _ (a : TimesTold) (b : TransfersTold) {r : Told} where
@@ -67,7 +66,7 @@ module _ (a b : List ℕ) where
 
   -- both files are read
   pub reads-both : (x y s t x′ y′ s′ t′ : List ℕ) (room : Room) {r : Told} → length a ≤ 4_294_967_295 → length b ≤ 4_294_967_295
-      → room ≡ roomOf (lentFeed x y s t) → r ≡ toldBy (splitOf room a) (readFeed room a b)
+      → room ≡ feedRoom (lentFeed x y s t) → r ≡ toldBy (splitOf room a) (readFeed room a b)
       → Left room a b (readFeed room a b) (lentFeed x y s t) (lentFeed x′ y′ s′ t′)
       → Reads a b (lentFeed x y s t) r (lentFeed x′ y′ s′ t′)
   unfolding toldFeed

@@ -2,9 +2,9 @@
 -- Assumes nothing.
 use Prim.Native.Nat.{ℕ, suc}
 use mathlib.Core.Path.{_≡_, refl, sym, ap, _∙_}
-use mathlib.Core.Bool.{true, false, cond, _&&_}
+use mathlib.Core.Bool.{_&&_}
 use mathlib.Core.Option.{Option, none, some}
-use mathlib.Core.List.{List, [], _∷_, _++_}
+use mathlib.Core.List.{List, [], _∷_}
 use lib.Dec.{ltb, leb}
 use lib.ListN.{length}
 use Rattle.base.proofs.Choice.{split}
@@ -14,12 +14,12 @@ use Rattle.csv.specs.Lines.{lines}
 use Rattle.names.specs.Booked.{Booked}
 use Rattle.feed.specs.declared.Room.{Room}
 use Rattle.feed.specs.declared.TransferColumns.{TransferColumns}
-use Rattle.feed.specs.Feed.{TimeRow, Feed, named, numberOf, badTransfers, full, done, Got}
+use Rattle.feed.specs.Feed.{TimeRow, Feed, named, Got}
 use Rattle.feed.specs.Columns.{transferColumns}
 use Rattle.feed.specs.Transfers.{TransferLine, transferLine, takeTransfer, transfersFrom, transfersUnder, readTransfers}
 use Rattle.feed.specs.Reading.{withoutMark}
+use Rattle.feed.proofs.Stopping.{transfer-none, transfer-full, transfer-goes}
 use Rattle.gtfs_transfers.specs.Told.{stopsOnly, firstShelf, transfersRead}
-use Rattle.gtfs_transfers.proofs.Lines.{from-bad, from-full, from-kept}
 
 -- ---- with these trips and stop times
 abbrev bearing : List (List ℕ) → List TimeRow → Feed → Feed
@@ -51,18 +51,18 @@ module _ (trips : List (List ℕ)) (times : List TimeRow) where
           → (x : TransferLine) → transferLine c l ≡ some x → (o : Option Feed) → takeTransfer room x f ≡ o
           → transfersFrom c room k (l ∷ ls) (bearing trips times f) ≡ carried trips times (transfersFrom c room k (l ∷ ls) f)
       row more x e none q =
-          from-full c room k l ls (bearing trips times f) x e (take-carried room x f ∙ ap maybe q)
-          ∙ ap (carried trips times) (sym (from-full c room k l ls f x e q))
+          transfer-full c room k l ls (bearing trips times f) e (take-carried room x f ∙ ap maybe q)
+          ∙ ap (carried trips times) (sym (transfer-full c room k l ls f e q))
       row more x e (some g) q =
-          from-kept c room k l ls (bearing trips times f) x e (bearing trips times g) (take-carried room x f ∙ ap maybe q)
+          transfer-goes c room k l ls (bearing trips times f) e (take-carried room x f ∙ ap maybe q)
           ∙ more g
-          ∙ ap (carried trips times) (sym (from-kept c room k l ls f x e g q))
+          ∙ ap (carried trips times) (sym (transfer-goes c room k l ls f e q))
 
       line : ((g : Feed) → transfersFrom c room (suc k) ls (bearing trips times g) ≡ carried trips times (transfersFrom c room (suc k) ls g))
           → (o : Option TransferLine) → transferLine c l ≡ o
           → transfersFrom c room k (l ∷ ls) (bearing trips times f) ≡ carried trips times (transfersFrom c room k (l ∷ ls) f)
       line more none e =
-          from-bad c room k l ls (bearing trips times f) e ∙ ap (carried trips times) (sym (from-bad c room k l ls f e))
+          transfer-none c room k l ls (bearing trips times f) e ∙ ap (carried trips times) (sym (transfer-none c room k l ls f e))
       line more (some x) e = row more x e (takeTransfer room x f) refl
 
   under-carried : (room : Room) (o : Option TransferColumns) (ls : List (List ℕ)) (f : Feed)

@@ -1,11 +1,10 @@
 -- The two files together: what each of them tells and leaves is what both do.
 -- Assumes nothing.
-use Prim.Native.Nat.{ℕ, _+_, _*_, _≤_, _<_}
+use Prim.Native.Nat.{ℕ, _≤_}
 use mathlib.Core.Path.{_≡_, refl, sym, ap, subst, _∙_}
-use mathlib.Core.List.{List, []}
+use mathlib.Core.List.{List}
 use native.Mathlib.Omega.{arith}
 use lib.ListN.{length}
-use Rattle.base.specs.Put.{withBytes}
 use Rattle.csv.specs.Lines.{lines}
 use Rattle.names.specs.Book.{namesIn}
 use Rattle.names.specs.Booked.{Booked}
@@ -13,9 +12,8 @@ use Rattle.names.proofs.Booking.{booked-turn}
 use Rattle.feed.specs.declared.Room.{Room}
 use Rattle.feed.specs.declared.Ending.{Ending}
 use Rattle.feed.specs.declared.Ending.the-variants.{Done, Bad, Full}
-use Rattle.feed.specs.Feed.{End, done, badTimes, badTransfers, full, Got}
+use Rattle.feed.specs.Feed.{End, done, badTimes, badTransfers, full}
 use Rattle.feed.specs.Times.{readTimes}
-use Rattle.feed.specs.Transfers.{readTransfers}
 use Rattle.feed.specs.Reading.{withoutMark, transfersAfter, readFeed}
 use Rattle.feed.specs.Rows.{flatBy, flatTransfers}
 use Rattle.feed.specs.Ending.{endingOf}

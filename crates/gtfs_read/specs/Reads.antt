@@ -1,5 +1,5 @@
 -- What `read` answers and leaves: "every table, query and buffer is answered".
-use Prim.Native.Nat.{ℕ, _+_, _*_, _/_}
+use Prim.Native.Nat.{ℕ, _/_}
 use mathlib.Core.Path.{_≡_}
 use mathlib.Core.Bool.{Bool, true, false, cond, _||_}
 use mathlib.Core.List.{List}
@@ -31,8 +31,8 @@ lentFeed times transfers stops trips = record { times = times; transfers = trans
 unfoldable pub rowsOf : List ℕ → ℕ → ℕ
 rowsOf w most = cond (leb (length w / 4) most) (length w / 4) most
 
-unfoldable pub roomOf : LentFeed → Room
-roomOf l =
+unfoldable pub feedRoom : LentFeed → Room
+feedRoom l =
     record {
       stops = rowsOf (l .stops) MOST-STOPS;
       trips = rowsOf (l .trips) MOST-TRIPS;
@@ -105,6 +105,6 @@ pub record Left (room : Room) (a b : List ℕ) (g : Got) (l l′ : LentFeed) : T
 
 -- two files were read into what was lent
 pub record Reads (a b : List ℕ) (l : LentFeed) (r : Told) (l′ : LentFeed) : Type 0 where
-  pub said : r ≡ toldFeed (roomOf l) a b
-  pub read : isTooLong a b ≡ false → Left (roomOf l) a b (readFeed (roomOf l) a b) l l′
+  pub said : r ≡ toldFeed (feedRoom l) a b
+  pub read : isTooLong a b ≡ false → Left (feedRoom l) a b (readFeed (feedRoom l) a b) l l′
   pub refused : isTooLong a b ≡ true → l′ ≡ l

@@ -1,7 +1,7 @@
 // Reads stop_times.txt and transfers.txt into lent tables: every pair of files and every room is answered.
 ghost use mathlib.Core.Path.{_≡_};
 ghost use Prim.Native.Nat.{_≤_};
-ghost use Rattle.gtfs_read.specs.Reads.{lentFeed, rowsOf, roomOf, refusedLong, toldBy, splitOf, Left, Reads};
+ghost use Rattle.gtfs_read.specs.Reads.{lentFeed, rowsOf, feedRoom, refusedLong, toldBy, splitOf, Left, Reads};
 ghost use Rattle.gtfs_read.specs.Parts.{firstTold, bothTold, toldOfBoth, FilesLent};
 ghost use Rattle.feed.specs.Reading.{readFeed};
 use feed::Ending;
@@ -37,7 +37,7 @@ fn rows_of(words: &[u32], most: usize) -> u32
 
 // The room of what is lent.
 fn room_of(times: &[u32], transfers: &[u32], stops: &[u32], trips: &[u32]) -> Room
-    ensures { λ r. ⌜ r ≡ roomOf (lentFeed (now (times .entry)) (now (transfers .entry)) (now (stops .entry)) (now (trips .entry))) ⌝ }
+    ensures { λ r. ⌜ r ≡ feedRoom (lentFeed (now (times .entry)) (now (transfers .entry)) (now (stops .entry)) (now (trips .entry))) ⌝ }
 {
     Room {
         stops: rows_of(stops, limits::MOST_STOPS),
@@ -88,7 +88,7 @@ fn both_told(first: TimesTold, second: TransfersTold, number: u32, line: u32, fi
         line: line,
         file: file,
         stops: second.stops,
-        split: first.stops,
+        split: first.stops, // stops that only transfers.txt names come behind
         trips: first.trips,
         times: first.times,
         transfers: second.transfers,

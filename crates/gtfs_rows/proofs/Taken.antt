@@ -1,36 +1,29 @@
 -- A line whose row is taken or refused: what it needs, and what it leaves.
 -- Assumes nothing.
-use Prim.Native.Nat.{ℕ, _+_, _*_, _≤_, _<_}
+use Prim.Native.Nat.{ℕ, _*_}
 use mathlib.Core.Path.{_≡_, refl, sym, subst, _∙_}
-use mathlib.Core.Bool.{Bool, true, false, cond, _&&_}
-use mathlib.Core.List.{List, [], _∷_, _++_}
+use mathlib.Core.List.{List, [], _∷_}
 use native.Mathlib.Omega.{arith}
-use lib.Dec.{ltb, leb}
-use lib.ListN.{length, getD, length-append}
-use borrow.Author.Tests.{ltb-true, ltb-false, lt-ltb, le-ltb, le-leb, lt-leb}
-use Rattle.base.proofs.Choice.{split, and-left}
+use lib.ListN.{length}
 use Rattle.base.specs.Put.{withBytes}
 use Rattle.base.specs.Tab.{tab}
 use Rattle.base.proofs.Tab.{tab-length}
 use Rattle.names.specs.Book.{namesIn}
 use Rattle.names.specs.Booked.{Booked}
 use Rattle.names.proofs.Booking.{booked-count}
-use Rattle.csv.specs.Texts.{sameText}
-use Rattle.columns.specs.Picks.{isNamed, textAt}
+use Rattle.columns.specs.Picks.{textAt}
 use Rattle.feed.specs.declared.Room.{Room}
 use Rattle.feed.specs.declared.TimeSpans.{TimeSpans}
-use Rattle.feed.specs.Feed.{Feed, knownAs, namedBy, named, numberBy, numberOf}
-use Rattle.feed.specs.Times.{TimeLine, Took as TookLine, kept, bad, noRoom, entered, isLast, takeTime}
+use Rattle.feed.specs.Feed.{Feed}
+use Rattle.feed.specs.Times.{takeTime}
 use Rattle.feed.specs.Spans.{timeAt}
-use Rattle.gtfs_rows.specs.declared.times.Trip.{Trip}
-use Rattle.gtfs_rows.specs.declared.times.Trip.the-variants.{Last, New, Gone}
 use Rattle.gtfs_rows.specs.declared.times.Plan.{Plan}
 use Rattle.gtfs_rows.specs.declared.times.Plan.the-variants.{Enter, Bad, Full}
 use Rattle.gtfs_rows.specs.declared.times.Reached.{Reached}
 use Rattle.gtfs_rows.specs.declared.times.Took.{Took}
 use Rattle.gtfs_rows.specs.declared.times.Took.the-variants.{Kept, Bad as Unfit, Full as NoRoom}
 use Rattle.gtfs_rows.specs.Named.{namesWith}
-use Rattle.gtfs_rows.specs.Taking.{tripIs, withTime, planBy, planUnder, planOf, stopShelf, tripShelf, afterEntry, Enters, Takeable, planIn, tookBy, LeftBy, Takes}
+use Rattle.gtfs_rows.specs.Taking.{planOf, stopShelf, tripShelf, afterEntry, Enters, Takeable, planIn, tookBy, Takes}
 use Rattle.gtfs_rows.proofs.Naming.{booked-here}
 use Rattle.gtfs_rows.proofs.Taking.{Plans, plan-right}
 

@@ -2,19 +2,13 @@
 -- Assumes nothing.
 use Prim.Native.Nat.{ℕ, zero, suc, _+_, _-_, _≤_, _<_}
 use mathlib.Core.Path.{_≡_, refl, sym, ap, _∙_}
-use mathlib.Core.Bool.{Bool, true, false, cond, _&&_}
+use mathlib.Core.Bool.{true}
 use mathlib.Core.List.{List, [], _∷_, _++_}
 use native.Mathlib.Omega.{arith}
 use lib.Dec.{ltb, leb}
 use lib.ListN.{length, getD, length-append}
 use borrow.Author.Tests.{ltb-true, ltb-false, lt-ltb, le-ltb, le-leb, lt-leb}
 use Rattle.base.proofs.Choice.{split, and-left}
-use Rattle.base.specs.Put.{withBytes}
-use Rattle.base.specs.Tab.{tab}
-use Rattle.base.proofs.Tab.{tab-length}
-use Rattle.names.specs.Book.{namesIn}
-use Rattle.names.specs.Booked.{Booked}
-use Rattle.names.proofs.Booking.{booked-count}
 use Rattle.csv.specs.Texts.{sameText}
 use Rattle.columns.specs.Picks.{isNamed, textAt}
 use Rattle.feed.specs.declared.Room.{Room}
@@ -27,11 +21,10 @@ use Rattle.gtfs_rows.specs.declared.times.Trip.the-variants.{Last, New, 
 use Rattle.gtfs_rows.specs.declared.times.Plan.{Plan}
 use Rattle.gtfs_rows.specs.declared.times.Plan.the-variants.{Enter, Bad, Full}
 use Rattle.gtfs_rows.specs.declared.times.Reached.{Reached}
-use Rattle.gtfs_rows.specs.declared.times.Took.{Took}
-use Rattle.gtfs_rows.specs.declared.times.Took.the-variants.{Kept, Bad as Unfit, Full as NoRoom}
 use Rattle.gtfs_rows.specs.Named.{namesWith}
-use Rattle.gtfs_rows.specs.Taking.{tripIs, withTime, planBy, planUnder, planOf, stopShelf, tripShelf, afterEntry, Enters, Takeable, planIn, tookBy, LeftBy, Takes}
-use Rattle.gtfs_rows.proofs.Named.{known-most, with-named, with-old, with-next, number-most}
+use Rattle.gtfs_rows.specs.Taking.{tripIs, withTime, planBy, planUnder, planOf}
+use Rattle.feed.proofs.Naming.{known-most, number-least}
+use Rattle.gtfs_rows.proofs.Named.{with-named, with-old, with-next}
 
 -- what a plan says of a feed that takes a line or refuses it
 abbrev pub Plans : Room → TimeLine → Feed → TookLine → Plan → Type 0
@@ -74,7 +67,7 @@ module _ (room : Room) (l : TimeLine) (f : Feed) (few : length (f .stops) ≤ ro
       (split (ltb trip (room .trips))
       (λ p. split (ltb s (room .stops))
       (λ q. split (ltb (length (f .times)) (room .times))
-      (λ r. rw (p, q, r) (row, below, number-most (f .stops) (l .stop), ltb-true trip (room .trips) p, ltb-true s (room .stops) q, ltb-true (length (f .times)) (room .times) r))
+      (λ r. rw (p, q, r) (row, below, number-least (f .stops) (l .stop), ltb-true trip (room .trips) p, ltb-true s (room .stops) q, ltb-true (length (f .times)) (room .times) r))
       (λ r. rw (p, q, r) refl))
       (λ q. rw (p, q) refl))
       (λ p. rw p refl))

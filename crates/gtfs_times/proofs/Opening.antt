@@ -1,16 +1,18 @@
 -- How a file begins: with no header, with a bad one, or with one whose columns are found.
 -- Assumes nothing.
-use Prim.Native.Nat.{ℕ, zero, suc, _+_, _-_, _*_, _≤_, _<_}
+use Prim.Native.Nat.{ℕ, _+_, _-_, _≤_}
 use mathlib.Core.Path.{_≡_, refl, sym, ap, subst, _∙_}
 use mathlib.Core.Option.{Option, none, some}
-use mathlib.Core.List.{List, [], _∷_, _++_}
+use mathlib.Core.List.{List, _∷_}
 use native.Mathlib.Omega.{arith}
-use lib.ListN.{length, drop, length-drop, drop-of-length-le}
+use lib.ListN.{length, drop, drop-of-length-le}
 use Rattle.csv.specs.There.{ifThere}
 use Rattle.csv.specs.Part.{part}
-use Rattle.csv.specs.Lines.{lineOf, afterLine, trimmed, lines}
+use Rattle.csv.specs.Lines.{lines}
+use Rattle.csv.specs.declared.TextLine.{TextLine}
+use Rattle.csv.specs.Read.{LineAt}
 use Rattle.csv.specs.Fields.{fields}
-use Rattle.csv.proofs.Stepping.{lines-none, lines-step}
+use Rattle.csv.proofs.Stepping.{lines-none}
 use Rattle.names.specs.Book.{Book}
 use Rattle.names.proofs.Booking.{booked-none}
 use Rattle.feed.specs.declared.Room.{Room}
@@ -41,15 +43,12 @@ module _ (b : List ℕ) (a : ℕ) (m : drop a b ≡ withoutMark b) where
       no-lines : (room : Room) → readTimes room (lines (withoutMark b)) ≡ unopened
       no-lines room = rw (← m, drop-of-length-le b h, lines-none)
 
-  module _ (h : a < length b) (e u : ℕ) (p : part a e b ≡ lineOf (drop a b)) (o : afterLine (drop a b) ≡ drop (e + 1) b)
-      (q : part a u b ≡ trimmed (part a e b)) {j : TimesHeader} (y : j ≡ timesHeaderTold (ifThere (fields (part a u b)) timesColumns)) where
-    first : lines (withoutMark b) ≡ part a u b ∷ lines (drop (e + 1) b)
-    first =
-        ap lines (sym m)
-        ∙ lines-step (drop a b) (omega (arith, length-drop a b))
-        ∙ (let l : trimmed (lineOf (drop a b)) ≡ part a u b = ap trimmed (sym p) ∙ sym q in rw (l, o))
+  module _ {l : TextLine} (p : LineAt b a l) {j : TimesHeader}
+      (y : j ≡ timesHeaderTold (ifThere (fields (part a (l .end) b)) timesColumns)) where
+    first : lines (withoutMark b) ≡ part a (l .end) b ∷ lines (drop (l .next) b)
+    first = ap lines (sym m) ∙ p .parted
 
-    under : (room : Room) → readTimes room (lines (withoutMark b)) ≡ timesUnder room (ifThere (fields (part a u b)) timesColumns) (lines (drop (e + 1) b))
+    under : (room : Room) → readTimes room (lines (withoutMark b)) ≡ timesUnder room (ifThere (fields (part a (l .end) b)) timesColumns) (lines (drop (l .next) b))
     unfolding readTimes
     under room = rw first
 
@@ -66,14 +65,14 @@ module _ (b : List ℕ) (a : ℕ) (m : drop a b ≡ withoutMark b) where
 
     pub open-bad : j ≡ BadHeader → Opens b NoRows
     open-bad z = record {
-      opens = λ room. under room ∙ no-columns (ifThere (fields (part a u b)) timesColumns) (sym z ∙ y) room (lines (drop (e + 1) b));
+      opens = λ room. under room ∙ no-columns (ifThere (fields (part a (l .end) b)) timesColumns) (sym z ∙ y) room (lines (drop (l .next) b));
       starts = Prim.tt;
     }
 
-    pub open-rows : (c : TimesColumns) → j ≡ Columns c → (a ≤ e) × (e ≤ length b) → Opens b (Rows c (e + 1))
-    open-rows c z k = record {
-      opens = λ room. under room ∙ the-columns c (ifThere (fields (part a u b)) timesColumns) (sym z ∙ y) room (lines (drop (e + 1) b));
-      starts = (omega arith, omega (arith, k .1));
+    pub open-rows : (c : TimesColumns) → j ≡ Columns c → Opens b (Rows c (l .next))
+    open-rows c z = record {
+      opens = λ room. under room ∙ the-columns c (ifThere (fields (part a (l .end) b)) timesColumns) (sym z ∙ y) room (lines (drop (l .next) b));
+      starts = (omega (arith, p .further), p .within);
     }
 
 -- ---- the file

@@ -1,24 +1,21 @@
 -- What the reader of stop_times.txt answers, and what it must be lent.
-use Prim.Native.Nat.{ℕ, _+_, _*_, _≤_, _<_}
+use Prim.Native.Nat.{ℕ, _+_, _*_, _≤_}
 use mathlib.Core.Path.{_≡_}
 use mathlib.Core.List.{List}
 use lib.ListN.{length, drop}
 use Rattle.base.specs.Put.{withBytes}
-use Rattle.csv.specs.Lines.{lineOf, afterLine, trimmed, lines}
+use Rattle.csv.specs.Lines.{lines}
 use Rattle.names.specs.declared.Shelf.{Shelf}
-use Rattle.names.specs.Book.{Book, Empty}
+use Rattle.names.specs.Book.{Empty}
 use Rattle.names.specs.Booked.{Booked}
 use Rattle.feed.specs.declared.Room.{Room}
 use Rattle.feed.specs.declared.Ending.{Ending}
 use Rattle.feed.specs.Feed.{emptyFeed, badTimes, Got}
-use Rattle.feed.specs.declared.TimesColumns.{TimesColumns}
 use Rattle.feed.specs.Rows.{flatTimes}
-use Rattle.feed.specs.Times.{timeLine, timesFrom, readTimes}
+use Rattle.feed.specs.Times.{timesFrom, readTimes}
 use Rattle.feed.specs.Reading.{withoutMark}
 use Rattle.feed.specs.Ending.{endingOf}
-use Rattle.gtfs_lines.specs.Values.{timeRead, TimeSpanned}
 use Rattle.gtfs_rows.specs.declared.times.Reached.{Reached}
-use Rattle.gtfs_times.specs.declared.NextLine.{NextLine}
 use Rattle.gtfs_times.specs.declared.Opened.{Opened}
 use Rattle.gtfs_times.specs.declared.Opened.the-variants.{Rows, Bad as NoRows}
 use Rattle.gtfs_times.specs.declared.TimesTold.{TimesTold}
@@ -35,15 +32,6 @@ timesTold g =
 -- the same by what was reached
 abbrev pub toldAt : Reached → Ending → TimesTold
 toldAt at ending = record { stops = at .stops; trips = at .trips; times = at .times; ending = ending }
-
--- ---- a line
--- the line that begins at i: its values, or none, and where the next one begins
-pub record LineRead (b : List ℕ) (c : TimesColumns) (i : ℕ) (r : NextLine) : Type 0 where
-  pub is : timeRead b (r .values) ≡ timeLine c (trimmed (lineOf (drop i b)))
-  pub texts : TimeSpanned b (r .values)
-  pub on : afterLine (drop i b) ≡ drop (r .next) b
-  pub further : i < r .next
-  pub within : r .next ≤ length b + 1
 
 -- ---- the header
 -- a file whose header is bad takes nothing: 14 at line 1

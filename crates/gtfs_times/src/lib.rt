@@ -1,6 +1,6 @@
 // Reads stop_times.txt into its table and the books of stops and trips.
 ghost use mathlib.Core.Path.{_≡_};
-ghost use Prim.Native.Nat.{_+_, _*_, _≤_, _<_};
+ghost use Prim.Native.Nat.{_+_, _*_, _≤_};
 ghost use lib.ListN.{length, drop};
 ghost use Rattle.csv.specs.Lines.{lines};
 ghost use Rattle.names.specs.Book.{Book};
@@ -8,7 +8,7 @@ ghost use Rattle.feed.specs.Reading.{withoutMark};
 ghost use Rattle.feed.specs.Times.{readTimes, timesFrom};
 ghost use Rattle.feed.specs.declared.Ending.the-variants.{Bad};
 ghost use Rattle.feed.specs.Feed.{emptyFeed};
-ghost use Rattle.gtfs_times.specs.Told.{timesTold, toldAt, LineRead, Opens, Cleared, TimesRoom, noNames, TimesLeft};
+ghost use Rattle.gtfs_times.specs.Told.{timesTold, toldAt, Opens, Cleared, TimesRoom, noNames, TimesLeft};
 use feed::Ending;
 use feed::Room;
 use feed::TimesColumns;
@@ -37,24 +37,12 @@ fn told(at: Reached, ending: Ending) -> TimesTold
     }
 }
 
-// A line's values, and where the next one begins.
-struct NextLine {
-    next: usize,
-    values: TimeRead,
-}
-
-// The line that begins at i.
-fn next_line(bytes: &[u8], i: usize, c: TimesColumns) -> NextLine
-    requires { ⌜ i < length (now bytes) ⌝ }
-    ensures { λ r. ⌜ LineRead (now (bytes .entry)) c i r ⌝ }
+// The line behind so many rows is bad: its number is that of the rows and 2.
+fn told_bad(at: Reached) -> TimesTold
+    requires { ⌜ at .times + 2 ≤ 4294967295 ⌝ }
+    ensures { λ r. ⌜ r ≡ toldAt at (Bad (at .times + 2)) ⌝ }
 {
-    let e = csv::line_end(bytes, i);
-    let u = csv::text_end(bytes, i, e);
-    let values = gtfs_lines::time_line(bytes, i, u, c);
-    NextLine {
-        next: e + 1,
-        values: values,
-    }
+    told(at, Ending::Bad(at.times + 2))
 }
 
 // Reads the rows from `from` on, where line 2 begins, into empty books.
@@ -77,7 +65,6 @@ fn read_rows(
         (now (times .entry)) (now (stops .entry)) (now (trips .entry)) (now (times .exit)) (now (stops .exit)) (now (trips .exit)) ⌝ }
 {
     let mut i = from;
-    let mut line: usize = 2;
     let mut at = Reached {
         stops: 0,
         trips: 0,
@@ -85,19 +72,18 @@ fn read_rows(
         last: 0,
     };
     while i < bytes.len() {
-        let read = next_line(bytes, i, c);
-        let values = read.values;
+        let line = csv::line(bytes, i);
+        let values = gtfs_lines::time_line(bytes, i, line.end, c);
         match values {
-            TimeRead::Bad => return told(at, Ending::Bad(line as u32)),
+            TimeRead::Bad => return told_bad(at),
             TimeRead::Values(v) => {
                 let took = gtfs_rows::times::take(bytes, times, stops, trips, room, at, v);
                 match took {
-                    Took::Bad => return told(at, Ending::Bad(line as u32)),
+                    Took::Bad => return told_bad(at),
                     Took::Full => return told(at, Ending::Full),
                     Took::Kept(reached) => {
                         at = reached;
-                        i = read.next;
-                        line += 1;
+                        i = line.next;
                     }
                 }
             }
@@ -133,14 +119,13 @@ fn open(bytes: &[u8]) -> Opened
     if bytes.len() <= a {
         return Opened::Bad;
     }
-    let e = csv::line_end(bytes, a);
-    let u = csv::text_end(bytes, a, e);
-    let header = gtfs_headers::times_header(bytes, a, u);
+    let line = csv::line(bytes, a);
+    let header = gtfs_headers::times_header(bytes, a, line.end);
     match header {
         TimesHeader::Columns(c) => {
             return Opened::Rows {
                 columns: c,
-                from: e + 1,
+                from: line.next,
             };
         }
         TimesHeader::Bad => return Opened::Bad,

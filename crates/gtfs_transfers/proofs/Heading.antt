@@ -1,17 +1,19 @@
 -- The header, before any row: where there is none or a bad one nothing is taken; behind it the rows are read.
 -- Assumes nothing.
-use Prim.Native.Nat.{ℕ, _+_, _≤_, _<_}
+use Prim.Native.Nat.{ℕ, _≤_}
 use mathlib.Core.Path.{_≡_, refl, sym, ap, _∙_}
 use mathlib.Core.Option.{Option, none, some}
-use mathlib.Core.List.{List, _∷_}
+use mathlib.Core.List.{List}
 use native.Mathlib.Omega.{arith}
-use lib.ListN.{length, drop, length-drop, drop-of-length-le}
+use lib.ListN.{length, drop, drop-of-length-le}
 use Rattle.base.specs.Put.{withBytes}
 use Rattle.csv.specs.There.{ifThere}
 use Rattle.csv.specs.Part.{part}
 use Rattle.csv.specs.Fields.{fields}
-use Rattle.csv.specs.Lines.{lineOf, afterLine, trimmed, lines}
-use Rattle.csv.proofs.Stepping.{lines-none, lines-step}
+use Rattle.csv.specs.Lines.{lines}
+use Rattle.csv.specs.declared.TextLine.{TextLine}
+use Rattle.csv.specs.Read.{LineAt}
+use Rattle.csv.proofs.Stepping.{lines-none}
 use Rattle.names.specs.Book.{namesIn}
 use Rattle.names.specs.Booked.{Booked}
 use Rattle.names.proofs.Booking.{booked-count, booked-turn}
@@ -75,25 +77,19 @@ module _ {room : Room} {counted : ℕ} {first second p s : List ℕ} (l : PathsL
       pub none-left : TransfersLeft room counted first second (transfersRead room counted first second s) p s p s
       none-left = left none-here
 
-    -- a line that ends at e, whose text ends at u
-    module _ (h : a < length second) (e u : ℕ) (o : part a e second ≡ lineOf (drop a second)) (r : afterLine (drop a second) ≡ drop (e + 1) second)
-        (m : part a u second ≡ trimmed (part a e second)) {x : TransfersHeader}
-        (ex : x ≡ transfersHeaderTold (ifThere (fields (part a u second)) transferColumns)) where
-      next : lines (drop a second) ≡ part a u second ∷ lines (drop (e + 1) second)
-      next =
-          lines-step (drop a second) (omega (arith, length-drop a second))
-          ∙ (let t : trimmed (lineOf (drop a second)) ≡ part a u second = ap trimmed (sym o) ∙ sym m in rw (t, r))
-
+    -- the header's line
+    module _ {r : TextLine} (k : LineAt second a r) {x : TransfersHeader}
+        (ex : x ≡ transfersHeaderTold (ifThere (fields (part a (r .end) second)) transferColumns)) where
       under : transfersRead room counted first second s
-          ≡ transfersUnder room (ifThere (fields (part a u second)) transferColumns) (lines (drop (e + 1) second))
+          ≡ transfersUnder room (ifThere (fields (part a (r .end) second)) transferColumns) (lines (drop (r .next) second))
           (stopsOnly (namesIn first first (firstShelf room counted) s))
       unfolding transfersRead readTransfers
-      under = rw (← ea, next)
+      under = rw (← ea, k .parted)
 
       bad-here : x ≡ Wrong → transfersRead room counted first second s
           ≡ record { feed = stopsOnly (namesIn first first (firstShelf room counted) s); end = badTransfers 1 }
       unfolding transfersUnder
-      bad-here w = under ∙ rw (was-wrong (ifThere (fields (part a u second)) transferColumns) ex w)
+      bad-here w = under ∙ rw (was-wrong (ifThere (fields (part a (r .end) second)) transferColumns) ex w)
 
       pub head-told : x ≡ Wrong → {y : TransfersTold} → y ≡ pathsToldAt (record { split = counted; stops = counted; transfers = 0 }) (Bad 1)
           → y ≡ transfersTold (transfersRead room counted first second s)
@@ -104,23 +100,23 @@ module _ {room : Room} {counted : ℕ} {first second p s : List ℕ} (l : PathsL
 
       -- the rows
       module _ {c : TransferColumns} (w : x ≡ Columns c) where
-        rows-here : transfersRead room counted first second s ≡ rowsRead room c counted (e + 1) first second s
+        rows-here : transfersRead room counted first second s ≡ rowsRead room c counted (r .next) first second s
         unfolding transfersUnder rowsRead
-        rows-here = under ∙ rw (was-right (ifThere (fields (part a u second)) transferColumns) ex w, held .texts)
+        rows-here = under ∙ rw (was-right (ifThere (fields (part a (r .end) second)) transferColumns) ex w, held .texts)
 
-        pub rows-told : {y : TransfersTold} → y ≡ transfersTold (rowsRead room c counted (e + 1) first second s)
+        pub rows-told : {y : TransfersTold} → y ≡ transfersTold (rowsRead room c counted (r .next) first second s)
             → y ≡ transfersTold (transfersRead room counted first second s)
         rows-told f = f ∙ ap transfersTold (sym rows-here)
 
-        pub rows-left : {p′ s′ : List ℕ} → TransfersLeft room counted first second (rowsRead room c counted (e + 1) first second s) p s p′ s′
+        pub rows-left : {p′ s′ : List ℕ} → TransfersLeft room counted first second (rowsRead room c counted (r .next) first second s) p s p′ s′
             → TransfersLeft room counted first second (transfersRead room counted first second s) p s p′ s′
         rows-left f = rw rows-here f
 
-  pub begins : (e : ℕ) → e ≤ length second → PathsBegin room counted (e + 1) first second p s
-  begins e h = record {
+  pub begins : {a : ℕ} {r : TextLine} → LineAt second a r → PathsBegin room counted (r .next) first second p s
+  begins k = record {
     book = held .book;
     short = l .short;
     rows = l .rows;
-    headed = omega arith;
-    inside = omega arith;
+    headed = omega (arith, k .further);
+    inside = k .within;
   }

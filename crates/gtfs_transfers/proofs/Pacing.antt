@@ -5,12 +5,14 @@ use mathlib.Core.Path.{_≡_, refl, sym, ap, _∙_}
 use mathlib.Core.Option.{none, some}
 use mathlib.Core.List.{List, [], _∷_, _++_}
 use native.Mathlib.Omega.{arith}
-use lib.ListN.{length, drop, length-drop, length-append, drop-of-length-le}
+use lib.ListN.{length, drop, length-append, drop-of-length-le}
 use Rattle.base.specs.Put.{withBytes}
 use Rattle.base.proofs.Put.{put-then, put-length}
 use Rattle.csv.specs.Part.{part}
-use Rattle.csv.specs.Lines.{lineOf, afterLine, trimmed, lines}
-use Rattle.csv.proofs.Stepping.{lines-none, lines-step}
+use Rattle.csv.specs.Lines.{lines}
+use Rattle.csv.specs.declared.TextLine.{TextLine}
+use Rattle.csv.specs.Read.{LineAt}
+use Rattle.csv.proofs.Stepping.{lines-none}
 use Rattle.columns.specs.Picks.{textAt}
 use Rattle.names.specs.Book.{namesIn}
 use Rattle.names.specs.Booked.{Booked}
@@ -23,6 +25,7 @@ use Rattle.feed.specs.Feed.{TransferRow, Feed, End, done, badTransfers, full, G
 use Rattle.feed.specs.Transfers.{transferLine, takeTransfer, transfersFrom}
 use Rattle.feed.specs.Spans.{transferAt}
 use Rattle.feed.specs.Rows.{flatBy, transferWords, flatTransfers}
+use Rattle.feed.proofs.Stopping.{transfer-none, transfer-full, transfer-goes}
 use Rattle.feed.proofs.Naming.{seen-least}
 use Rattle.feed.proofs.Rows.{flat-transfers-length, flat-transfers-append}
 use Rattle.feed.specs.Orderly.{seenAfter}
@@ -38,9 +41,7 @@ use Rattle.gtfs_paths.specs.Taking.{withTransfer, pathShelf, afterPath, PathTak
 use Rattle.gtfs_lines.specs.declared.TransferRead.{TransferRead}
 use Rattle.gtfs_lines.specs.declared.TransferRead.the-variants.{Values, Bad as Wrong}
 use Rattle.gtfs_lines.specs.Values.{transferRead, TransferSpanned}
-use Rattle.gtfs_transfers.specs.declared.PathsLine.{PathsLine}
-use Rattle.gtfs_transfers.specs.Told.{transfersTold, pathsToldAt, rowsRead, pathsLeft, stopsOnly, turnedShelf, TransfersLeft, PathsBegin, PathLine}
-use Rattle.gtfs_transfers.proofs.Lines.{from-bad, from-full, from-kept}
+use Rattle.gtfs_transfers.specs.Told.{transfersTold, pathsToldAt, rowsRead, pathsLeft, stopsOnly, turnedShelf, TransfersLeft, PathsBegin}
 use Rattle.gtfs_paths.proofs.Taking.{Fits, plan-fits, Plans, plan-right}
 
 -- the next line begins at i, and so much was reached
@@ -55,9 +56,9 @@ pub record Pacing (first second : List ℕ) (c : TransferColumns) (room : Room) 
   rows-room : 4 * room .transfers ≤ length p₀
   turned : at .split ≤ at .stops
   cut-is : at .split ≡ cut
-  pub inside : i ≤ length second + 1
-  pub lines-passed : at .transfers + 1 ≤ i
-  pub short : length second ≤ 4_294_967_295
+  inside : i ≤ length second + 1
+  lines-passed : at .transfers + 1 ≤ i
+  short : length second ≤ 4_294_967_295
 
 row-words : (r : TransferRow) → flatTransfers (r ∷ []) ≡ r .from ∷ r .to ∷ r .kind ∷ r .span ∷ []
 unfolding flatTransfers flatBy transferWords
@@ -79,18 +80,6 @@ pacing-start {first} {second} {p} {s} c {room} {cut} {i} k = record {
   inside = k .inside;
   lines-passed = k .headed;
   short = k .short;
-}
-
--- ---- a line that ends at e, whose text ends at u
-pub line-here : (c : TransferColumns) (b : List ℕ) (i e u : ℕ) {x : TransferRead} → part i e b ≡ lineOf (drop i b) → i ≤ e → e ≤ length b
-    → afterLine (drop i b) ≡ drop (e + 1) b → part i u b ≡ trimmed (part i e b) → transferRead b x ≡ transferLine c (part i u b)
-    → TransferSpanned b x → PathLine c b i (record { values = x; next = e + 1 })
-line-here c b i e u o lo hi r m q w = record {
-  said = q ∙ ap (transferLine c) (m ∙ ap trimmed o);
-  spanned = w;
-  behind = r;
-  further = omega arith;
-  inside = omega arith;
 }
 
 -- ---- the loop
@@ -131,24 +120,18 @@ module _ {first second : List ℕ} {c : TransferColumns} {room : Room} {cut : �
     done-left = left done end-here
 
   -- a line
-  module _ (h : i < length second) {r : PathsLine} (k : PathLine c second i r) where
-    text : List ℕ
-    text = trimmed (lineOf (drop i second))
+  -- its number fits 32 bits
+  pub line-fits : i < length second → at .transfers + 2 < 4_294_967_296
+  line-fits h = omega (arith, g .lines-passed, g .short)
 
-    next : lines (drop i second) ≡ text ∷ lines (drop (r .next) second)
-    unfolding text
-    next = lines-step (drop i second) (omega (arith, length-drop i second)) ∙ rw (k .behind)
-
-    pub line-fits : at .transfers + 2 ≤ 4_294_967_295
-    line-fits = omega (arith, g .lines-passed, g .short)
-
-    module _ (w : r .values ≡ Wrong) where
+  module _ {r : TextLine} (k : LineAt second i r) {j : TransferRead} (o : transferRead second j ≡ transferLine c (part i (r .end) second)) where
+    module _ (w : j ≡ Wrong) where
       bad-here : transfersFrom c room (at .transfers + 2) (lines (drop i second)) (g .feed)
           ≡ record { feed = g .feed; end = badTransfers (at .transfers + 2) }
-      unfolding transferRead text
+      unfolding transferRead
       bad-here =
-          let q : transferLine c text ≡ none = sym (k .said) ∙ ap (transferRead second) w in
-          rw next (from-bad c room (at .transfers + 2) text (lines (drop (r .next) second)) (g .feed) q)
+          let q : transferLine c (part i (r .end) second) ≡ none = sym o ∙ ap (transferRead second) w in
+          rw (k .parted) (transfer-none c room (at .transfers + 2) (part i (r .end) second) (lines (drop (r .next) second)) (g .feed) q)
 
       pub bad-told : {y : TransfersTold} → y ≡ pathsToldAt at (Bad (at .transfers + 2)) → y ≡ transfersTold whole
       unfolding endingOf
@@ -157,10 +140,10 @@ module _ {first second : List ℕ} {c : TransferColumns} {room : Room} {cut : �
       pub bad-left : TransfersLeft room cut first second whole p₀ s₀ p s
       bad-left = left (badTransfers (at .transfers + 2)) bad-here
 
-    module _ {v : TransferSpans} (w : r .values ≡ Values v) where
-      q : transferLine c text ≡ some (transferAt second v)
-      unfolding transferRead text
-      q = sym (k .said) ∙ ap (transferRead second) w
+    module _ {v : TransferSpans} (w : j ≡ Values v) where
+      q : transferLine c (part i (r .end) second) ≡ some (transferAt second v)
+      unfolding transferRead
+      q = sym o ∙ ap (transferRead second) w
 
       flat-long : length (flatTransfers (g .feed .transfers)) ≡ 4 * at .transfers
       flat-long = flat-transfers-length (g .feed .transfers) ∙ ap (λ (n : ℕ). 4 * n) (g .counted)
@@ -171,9 +154,9 @@ module _ {first second : List ℕ} {c : TransferColumns} {room : Room} {cut : �
           let room-rows = g .rows-room in
           ap length (g .rows-held) ∙ put-length p₀ 0 (flatTransfers (g .feed .transfers)) (omega (arith, flat-long))
 
-      pub takeable : PathTakeable first second room at v p s
-      takeable =
-          let o : TransferSpanned second (Values v) = rw w at (k .spanned) in
+      pub takeable : i < length second → TransferSpanned second j → PathTakeable first second room at v p s
+      takeable h y =
+          let o : TransferSpanned second (Values v) = rw w at y in
           record {
             book = g .held .book;
             near-text = o .0;
@@ -181,7 +164,7 @@ module _ {first second : List ℕ} {c : TransferColumns} {room : Room} {cut : �
             short = g .short;
             turned = g .turned;
             rows = omega (arith, long, g .rows-room);
-            row-next = omega (arith, line-fits);
+            row-next = omega (arith, line-fits h);
           }
 
       right : Plans room (transferAt second v) (g .feed) (takeTransfer room (transferAt second v) (g .feed)) (pathIn first second room at v s)
@@ -220,9 +203,8 @@ module _ {first second : List ℕ} {c : TransferColumns} {room : Room} {cut : �
           rest =
               (let line : at .transfers + 1 + 2 ≡ suc (at .transfers + 2) = omega arith in
               rw line
-              (sym (from-kept c room (at .transfers + 2) text (lines (drop (r .next) second)) (g .feed) (transferAt second v) q
-              (withTransfer (g .feed) (transferAt second v) from to) n)
-              ∙ ap (λ (ls : List (List ℕ)). transfersFrom c room (at .transfers + 2) ls (g .feed)) (sym next)
+              (sym (transfer-goes c room (at .transfers + 2) (part i (r .end) second) (lines (drop (r .next) second)) (g .feed) q n)
+              ∙ ap (λ (ls : List (List ℕ)). transfersFrom c room (at .transfers + 2) ls (g .feed)) (sym (k .parted))
               ∙ g .rest));
           held = booked-on (g .held) (rw (g .held .texts) at (l .1)) grown;
           rows-held = rows-on;
@@ -231,7 +213,7 @@ module _ {first second : List ℕ} {c : TransferColumns} {room : Room} {cut : �
           rows-room = g .rows-room;
           turned = omega (arith, g .turned, grown);
           cut-is = g .cut-is;
-          inside = k .inside;
+          inside = k .within;
           lines-passed = omega (arith, k .further, g .lines-passed);
           short = g .short;
         }
@@ -242,7 +224,7 @@ module _ {first second : List ℕ} {c : TransferColumns} {room : Room} {cut : �
           → transfersFrom c room (at .transfers + 2) (lines (drop i second)) (g .feed) ≡ record { feed = g .feed; end = full }
       unfolding pathTookBy
       full-by (Enter from to) n e f = let z : _≡_ {A = ℕ} 0 1 = cc in absurd (omega arith)
-      full-by Full n e f = rw next (from-full c room (at .transfers + 2) text (lines (drop (r .next) second)) (g .feed) (transferAt second v) q n)
+      full-by Full n e f = rw (k .parted) (transfer-full c room (at .transfers + 2) (part i (r .end) second) (lines (drop (r .next) second)) (g .feed) q n)
 
       module _ {y : PathTook} {p′ s′ : List ℕ} (t : PathTakes first second room at v y p s p′ s′) where
         full-here : y ≡ NoRow → transfersFrom c room (at .transfers + 2) (lines (drop i second)) (g .feed) ≡ record { feed = g .feed; end = full }

@@ -1,10 +1,10 @@
 -- What the reader of transfers.txt answers and leaves, and what it must be lent.
-use Prim.Native.Nat.{ℕ, _+_, _*_, _≤_, _<_}
+use Prim.Native.Nat.{ℕ, _+_, _*_, _≤_}
 use mathlib.Core.Path.{_≡_}
 use mathlib.Core.List.{List, []}
 use lib.ListN.{length, drop}
 use Rattle.base.specs.Put.{withBytes}
-use Rattle.csv.specs.Lines.{lineOf, afterLine, trimmed, lines}
+use Rattle.csv.specs.Lines.{lines}
 use Rattle.names.specs.declared.Shelf.{Shelf}
 use Rattle.names.specs.Book.{Book, namesIn}
 use Rattle.names.specs.Booked.{Booked}
@@ -14,11 +14,9 @@ use Rattle.feed.specs.declared.Ending.{Ending}
 use Rattle.feed.specs.Feed.{Feed, Got}
 use Rattle.feed.specs.Ending.{endingOf}
 use Rattle.feed.specs.Rows.{flatTransfers}
-use Rattle.feed.specs.Transfers.{transferLine, transfersFrom, readTransfers}
+use Rattle.feed.specs.Transfers.{transfersFrom, readTransfers}
 use Rattle.feed.specs.Reading.{withoutMark}
 use Rattle.gtfs_transfers.specs.declared.TransfersTold.{TransfersTold}
-use Rattle.gtfs_lines.specs.Values.{transferRead, TransferSpanned}
-use Rattle.gtfs_transfers.specs.declared.PathsLine.{PathsLine}
 use Rattle.gtfs_paths.specs.declared.PathsReached.{PathsReached}
 
 -- ---- the answer
@@ -71,11 +69,3 @@ pub record PathsBegin (room : Room) (counted next : ℕ) (first second paths sto
   pub rows : 4 * room .transfers ≤ length paths
   pub headed : 1 ≤ next
   pub inside : next ≤ length second + 1
-
--- ---- a line: its values, and where the next one begins
-pub record PathLine (c : TransferColumns) (second : List ℕ) (i : ℕ) (r : PathsLine) : Type 0 where
-  pub said : transferRead second (r .values) ≡ transferLine c (trimmed (lineOf (drop i second)))
-  pub spanned : TransferSpanned second (r .values)
-  pub behind : afterLine (drop i second) ≡ drop (r .next) second
-  pub further : i < r .next
-  pub inside : r .next ≤ length second + 1

@@ -1,9 +1,7 @@
 // Reads transfers.txt into its table and the book of stops.
 ghost use mathlib.Core.Path.{_≡_};
-ghost use Prim.Native.Nat.{_<_};
-ghost use lib.ListN.{length};
 ghost use Rattle.gtfs_transfers.specs.Told.{transfersTold, pathsToldAt, transfersRead, rowsRead};
-ghost use Rattle.gtfs_transfers.specs.Told.{TransfersLeft, PathsLent, PathsBegin, PathLine};
+ghost use Rattle.gtfs_transfers.specs.Told.{TransfersLeft, PathsLent, PathsBegin};
 use feed::Ending;
 use feed::Room;
 use feed::TransferColumns;
@@ -25,12 +23,6 @@ pub struct PathsBegun {
     pub next: usize,
 }
 
-// The values of a line, and where the next line begins.
-pub struct PathsLine {
-    pub values: TransferRead,
-    pub next: usize,
-}
-
 // How far the rows came, and how the reading ends there.
 fn told(at: PathsReached, ending: Ending) -> TransfersTold
     ensures { λ r. ⌜ r ≡ pathsToldAt at ending ⌝ }
@@ -42,21 +34,7 @@ fn told(at: PathsReached, ending: Ending) -> TransfersTold
     }
 }
 
-// The line that begins at i.
-fn next_line(second: &[u8], i: usize, c: TransferColumns) -> PathsLine
-    requires { ⌜ i < length (now second) ⌝ }
-    ensures { λ r. ⌜ PathLine c (now (second .entry)) i r ⌝ }
-{
-    let e = csv::line_end(second, i);
-    let u = csv::text_end(second, i, e);
-    let values = gtfs_lines::transfer_line(second, i, u, c);
-    PathsLine {
-        values: values,
-        next: e + 1,
-    }
-}
-
-// Reads the rows, where line 2 begins.
+// Reads the rows, where line 2 begins. Each line before is a row, so the line's number is that of the rows and 2.
 fn read_rows(
     first: &[u8],
     second: &[u8],
@@ -80,8 +58,8 @@ fn read_rows(
         transfers: 0,
     };
     while i < second.len() {
-        let line = next_line(second, i, c);
-        let values = line.values;
+        let line = csv::line(second, i);
+        let values = gtfs_lines::transfer_line(second, i, line.end, c);
         match values {
             TransferRead::Bad => return told(at, Ending::Bad(at.transfers + 2)),
             TransferRead::Values(v) => {
@@ -123,15 +101,14 @@ pub fn read_transfers(
     if second.len() <= a {
         return told(none, Ending::Bad(1));
     }
-    let e = csv::line_end(second, a);
-    let u = csv::text_end(second, a, e);
-    let head = gtfs_headers::transfers_header(second, a, u);
+    let line = csv::line(second, a);
+    let head = gtfs_headers::transfers_header(second, a, line.end);
     match head {
         TransfersHeader::Bad => return told(none, Ending::Bad(1)),
         TransfersHeader::Columns(c) => {
             let begun = PathsBegun {
                 counted: counted,
-                next: e + 1,
+                next: line.next,
             };
             return read_rows(first, second, paths, stops, room, c, begun);
         }

@@ -14,7 +14,7 @@ use Rattle.base.proofs.Tab.{tab-length, tab-at, tab-more, tab-same}
 use Rattle.names.specs.Names.{placeAmong}
 use Rattle.names.specs.declared.Shelf.{Shelf}
 use Rattle.names.specs.Book.{slotOf, lastIn, fileOf, nameAt, namesIn, oneMore, Book, Added, Empty}
-use Rattle.names.specs.Booked.{Booked}
+use Rattle.names.specs.Booked.{Booked, SameBook}
 use Rattle.names.proofs.Adding.{last-same}
 
 -- a cleared book
@@ -86,6 +86,26 @@ module _ {first second : List ℕ} {shelf : Shelf} {w w′ : List ℕ} {names : 
     long = a .long ∙ k .long;
     past = a .past ∙ past-on w′ w (shelf .cap + 3 * shelf .count) (shelf .cap + 3 * (shelf .count + 1)) (omega arith) (k .past);
   }
+
+-- the same names, put into the same words, leave the same book
+pub booked-same : {first second : List ℕ} {shelf : Shelf} {w v v′ : List ℕ} {names : List (List ℕ)} → Booked first second shelf w v names
+    → Booked first second shelf w v′ names → SameBook shelf v v′
+booked-same {first} {second} {shelf} {w} {v} {v′} {names} k l = record {
+  same-heads = λ b h. k .book .heads b h ∙ last-same (shelf .cap) f g b (shelf .count) alike ∙ sym (l .book .heads b h);
+  same-nexts = λ i h. k .book .nexts i h ∙ last-same (shelf .cap) f g (slotOf (shelf .cap) (f i)) i (λ j m. alike j (omega arith))
+      ∙ ap (λ (t : List ℕ). lastIn (shelf .cap) g (slotOf (shelf .cap) t) i) (alike i h) ∙ sym (l .book .nexts i h);
+  same-behind = k .past ∙ sym (l .past);
+  same-length = k .long ∙ sym (l .long);
+}
+  where
+    f : ℕ → List ℕ
+    f = nameAt first second shelf v
+
+    g : ℕ → List ℕ
+    g = nameAt first second shelf v′
+
+    alike : (i : ℕ) → i < shelf .count → nameAt first second shelf v i ≡ nameAt first second shelf v′ i
+    alike i h = booked-name k i h ∙ sym (booked-name l i h)
 
 -- the second file begins: all names so far stand in the first
 module _ (a b w : List ℕ) (cap n : ℕ) where

@@ -1,15 +1,14 @@
 -- Digits read one by one: the value so far and what is left say what all of them are.
 -- Assumes nothing.
-use Prim.Native.Nat.{ℕ, zero, suc, _+_, _-_, _*_, _≤_, _<_}
+use Prim.Native.Nat.{ℕ, _+_, _-_, _*_, _≤_, _<_}
 use mathlib.Core.Path.{_≡_, refl, sym, ap, _∙_}
 use mathlib.Core.Option.{Option, none, some}
-use mathlib.Core.List.{List, [], _∷_}
+use mathlib.Core.List.{List, _∷_}
 use native.Mathlib.Omega.{arith}
 use lib.ListN.{length, getD}
 use borrow.Author.Tests.{le-leb, lt-leb}
 use Rattle.csv.specs.Part.{part}
 use Rattle.csv.proofs.Parts.{part-step, part-none}
-use Rattle.numbers.specs.declared.Number.{Number}
 use Rattle.numbers.specs.declared.Number.the-variants.{Is, Nothing}
 use Rattle.numbers.specs.Decimal.{decimalFrom, decimal}
 use Rattle.numbers.specs.Told.{toldNumber}

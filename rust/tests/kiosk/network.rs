@@ -1,4 +1,5 @@
-//! Networks as lists, and the flat words of their tables.
+//! Networks as lists, and the flat words of their tables. They are laid out here once more, and not by the library's loader: its words are
+//! held to these (`gtfs.rs`).
 
 pub const ABSENT: u32 = u32::MAX;
 

@@ -5,11 +5,6 @@ use mathlib.Core.Path.{_≡_}
 use lib.ListN.{length}
 use Rattle.checktables.proofs.main.Statement.{statement}
 use Rattle.checktables.proofs.main.Tie as tie
-use Rattle.checktables.proofs.main.Reads as reads
-use Rattle.checktables.proofs.main.Lts as lts
-use Rattle.checktables.proofs.feed_all.Reads as feed-all-reads
-use Rattle.io.proofs.read_full.Reads as read-full-reads
-use Rattle.lines.proofs.new.Reads as new-reads
 
 abbrev Inv-loop : tie.InvT-loop
 Inv-loop words₀ block₀ line₀ turns₀ words block line turns = (line .value ≤ 4294967296) × (length words ≡ 8192) × (length block ≡ 4096)
@@ -17,55 +12,42 @@ Inv-loop words₀ block₀ line₀ turns₀ words block line turns = (line .valu
 abbrev μ-loop : tie.MeasureT-loop
 μ-loop words₀ block₀ line₀ turns₀ words block line turns = turns
 
--- src/main.rt:60:9
 new-requires : tie.Need-new-requires Inv-loop μ-loop
 new-requires c κs = search needs
 
--- src/main.rt:62:5
 loop-holds : tie.Need-loop-holds Inv-loop μ-loop
 loop-holds c = search needs
 
--- src/main.rt:63:47
 slice-aggregate-read-full : tie.Need-slice-aggregate-read-full Inv-loop μ-loop
 slice-aggregate-read-full c = search needs
 
--- src/main.rt:63:13
 read-full-requires : tie.Need-read-full-requires Inv-loop μ-loop
 read-full-requires c κs = search needs
 
--- src/main.rt:65:13
 returns : tie.Need-returns Inv-loop μ-loop
 returns c = search needs
 
--- src/main.rt:67:25
 slice-aggregate-feed-all : tie.Need-slice-aggregate-feed-all Inv-loop μ-loop
 slice-aggregate-feed-all c = search needs
 
--- src/main.rt:67:43
 array-share-prefix-block : tie.Need-array-share-prefix-block Inv-loop μ-loop
 array-share-prefix-block c = search needs
 
--- src/main.rt:67:43
 slice-aggregate-feed-all-2 : tie.Need-slice-aggregate-feed-all-2 Inv-loop μ-loop
 slice-aggregate-feed-all-2 c = search needs
 
--- src/main.rt:67:9
 feed-all-requires : tie.Need-feed-all-requires Inv-loop μ-loop
 feed-all-requires c κs = search needs
 
--- src/main.rt:68:9
 sub-turns : tie.Need-sub-turns Inv-loop μ-loop
 sub-turns c = search needs
 
--- src/main.rt:62:5
 loop-less : tie.Need-loop-less Inv-loop μ-loop
 loop-less c = search needs
 
--- src/main.rt:62:5
 loop-again : tie.Need-loop-again Inv-loop μ-loop
 loop-again c = search needs
 
--- src/main.rt:57:1
 returns-2 : tie.Need-returns-2 Inv-loop μ-loop
 returns-2 c = search needs
 

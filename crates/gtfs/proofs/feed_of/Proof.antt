@@ -4,32 +4,22 @@ use borrow.Author.Needs.{needs}
 use lib.Seq.{length-take-le}
 use Rattle.gtfs.proofs.feed_of.Statement.{statement}
 use Rattle.gtfs.proofs.feed_of.Tie as tie
-use Rattle.gtfs.proofs.feed_of.Reads as reads
-use Rattle.gtfs.proofs.feed_of.Lts as lts
-use Rattle.gtfs.proofs.feed.Reads as feed-reads
-use Rattle.gtfs.proofs.mark_from.Reads as mark-from-reads
 
--- src/main.rt:292:9
 mark-from-requires : tie.Need-mark-from-requires
 mark-from-requires c κs = search needs
 
--- src/main.rt:294:9
 returns : tie.Need-returns
 returns c = search needs
 
--- src/main.rt:296:10
 slice-aggregate-feed : tie.Need-slice-aggregate-feed
 slice-aggregate-feed c = search (needs, length-take-le)
 
--- src/main.rt:296:5
 feed-requires : tie.Need-feed-requires
 feed-requires c κs = search needs
 
--- src/main.rt:297:5
 add-result : tie.Need-add-result
 add-result c = search needs
 
--- src/main.rt:289:1
 returns-2 : tie.Need-returns-2
 returns-2 c = search needs
 

@@ -2,12 +2,9 @@
 -- Assumes nothing.
 use borrow.Author.Needs.{needs}
 use Prim.Native.Nat.{_-_}
-use lib.ListN.{length, length-drop}
+use lib.ListN.{length}
 use Rattle.gtfs.proofs.feeds.Statement.{statement}
 use Rattle.gtfs.proofs.feeds.Tie as tie
-use Rattle.gtfs.proofs.feeds.Reads as reads
-use Rattle.gtfs.proofs.feeds.Lts as lts
-use Rattle.gtfs.proofs.feed_of.Reads as feed-of-reads
 
 abbrev Inv-loop : tie.InvT-loop
 Inv-loop bytes at₀ at = Unit {0}
@@ -15,47 +12,36 @@ Inv-loop bytes at₀ at = Unit {0}
 abbrev μ-loop : tie.MeasureT-loop
 μ-loop bytes at₀ at = length bytes - at
 
--- src/main.rt:303:5
 loop-holds : tie.Need-loop-holds Inv-loop μ-loop
 loop-holds c = search needs
 
--- src/main.rt:304:29
 sub-feed-of : tie.Need-sub-feed-of Inv-loop μ-loop
 sub-feed-of c = search needs
 
--- src/main.rt:304:29
 part-feed-of-start : tie.Need-part-feed-of-start Inv-loop μ-loop
 part-feed-of-start c = search needs
 
--- src/main.rt:304:29
 part-feed-of-end : tie.Need-part-feed-of-end Inv-loop μ-loop
 part-feed-of-end c = search needs
 
--- src/main.rt:304:13
 feed-of-requires : tie.Need-feed-of-requires Inv-loop μ-loop
 feed-of-requires c κs = search needs
 
--- src/main.rt:305:12
 sub-if1 : tie.Need-sub-if1 Inv-loop μ-loop
 sub-if1 c = search needs
 
--- src/main.rt:306:13
 returns : tie.Need-returns Inv-loop μ-loop
 returns c = search needs
 
--- src/main.rt:308:9
 add-at : tie.Need-add-at Inv-loop μ-loop
 add-at c = search needs
 
--- src/main.rt:303:5
 loop-less : tie.Need-loop-less Inv-loop μ-loop
 loop-less c = search needs
 
--- src/main.rt:303:5
 loop-again : tie.Need-loop-again Inv-loop μ-loop
 loop-again c = search needs
 
--- src/main.rt:301:1
 returns-2 : tie.Need-returns-2 Inv-loop μ-loop
 returns-2 c = search needs
 

@@ -5,9 +5,6 @@ use Prim.Native.Nat.{_-_}
 use lib.ListN.{length}
 use Rattle.gtfs.proofs.mark_from.Statement.{statement}
 use Rattle.gtfs.proofs.mark_from.Tie as tie
-use Rattle.gtfs.proofs.mark_from.Reads as reads
-use Rattle.gtfs.proofs.mark_from.Lts as lts
-use Rattle.gtfs.proofs.is_mark.Reads as is-mark-reads
 
 abbrev Inv-loop : tie.InvT-loop
 Inv-loop bytes b i₀ i = Unit {0}
@@ -15,31 +12,24 @@ Inv-loop bytes b i₀ i = Unit {0}
 abbrev μ-loop : tie.MeasureT-loop
 μ-loop bytes b i₀ i = length bytes - i
 
--- src/main.rt:39:5
 loop-holds : tie.Need-loop-holds Inv-loop μ-loop
 loop-holds c = search needs
 
--- src/main.rt:40:12
 is-mark-requires : tie.Need-is-mark-requires Inv-loop μ-loop
 is-mark-requires c κs = search needs
 
--- src/main.rt:41:13
 returns : tie.Need-returns Inv-loop μ-loop
 returns c = search needs
 
--- src/main.rt:43:9
 add-i : tie.Need-add-i Inv-loop μ-loop
 add-i c = search needs
 
--- src/main.rt:39:5
 loop-less : tie.Need-loop-less Inv-loop μ-loop
 loop-less c = search needs
 
--- src/main.rt:39:5
 loop-again : tie.Need-loop-again Inv-loop μ-loop
 loop-again c = search needs
 
--- src/main.rt:35:1
 returns-2 : tie.Need-returns-2 Inv-loop μ-loop
 returns-2 c = search needs
 

@@ -2,7 +2,7 @@
 -- Assumes nothing.
 use borrow.Author.Needs.{needs}
 use Rattle.feed.specs.Spans.{timeAt}
-use Rattle.gtfs_lines.specs.Values.{timeRead, timeIn}
+use Rattle.gtfs_lines.specs.Values.{timeRead}
 use Rattle.gtfs_lines.proofs.Forms.{formed-right, formed-wrong}
 use Rattle.gtfs_lines.proofs.time_values.Statement.{statement}
 use Rattle.gtfs_lines.proofs.time_values.Tie as tie

@@ -2,7 +2,7 @@
 -- Assumes nothing.
 use borrow.Author.Needs.{needs}
 use Rattle.feed.specs.Spans.{transferAt}
-use Rattle.gtfs_lines.specs.Values.{transferRead, transferIn}
+use Rattle.gtfs_lines.specs.Values.{transferRead}
 use Rattle.gtfs_lines.proofs.Forms.{formed-right, formed-wrong}
 use Rattle.gtfs_lines.proofs.transfer_values.Statement.{statement}
 use Rattle.gtfs_lines.proofs.transfer_values.Tie as tie

@@ -4,27 +4,19 @@ use borrow.Author.Needs.{needs}
 use Rattle.gtfs_read.proofs.Rooms.{room-is}
 use Rattle.gtfs_read.proofs.room_of.Statement.{statement}
 use Rattle.gtfs_read.proofs.room_of.Tie as tie
-use Rattle.gtfs_read.proofs.room_of.Reads as reads
-use Rattle.gtfs_read.proofs.room_of.Lts as lts
-use Rattle.gtfs_read.proofs.rows_of.Reads as rows-of-reads
 
--- src/lib.rt:43:16
 rows-of-requires : tie.Need-rows-of-requires
 rows-of-requires c κs = search needs
 
--- src/lib.rt:44:16
 rows-of-requires-2 : tie.Need-rows-of-requires-2
 rows-of-requires-2 c κs = search needs
 
--- src/lib.rt:45:16
 rows-of-requires-3 : tie.Need-rows-of-requires-3
 rows-of-requires-3 c κs = search needs
 
--- src/lib.rt:46:20
 rows-of-requires-4 : tie.Need-rows-of-requires-4
 rows-of-requires-4 c κs = search needs
 
--- src/lib.rt:39:1
 returns : tie.Need-returns
 returns c = search (needs, room-is)
 

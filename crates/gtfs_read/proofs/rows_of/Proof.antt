@@ -4,22 +4,16 @@ use borrow.Author.Needs.{needs}
 use Rattle.gtfs_read.proofs.Rooms.{rows-few, rows-many}
 use Rattle.gtfs_read.proofs.rows_of.Statement.{statement}
 use Rattle.gtfs_read.proofs.rows_of.Tie as tie
-use Rattle.gtfs_read.proofs.rows_of.Reads as reads
-use Rattle.gtfs_read.proofs.rows_of.Lts as lts
 
--- src/lib.rt:33:16
 cast-result : tie.Need-cast-result
 cast-result c = search needs
 
--- src/lib.rt:33:9
 returns : tie.Need-returns
 returns c = search (needs, rows-few)
 
--- src/lib.rt:35:5
 cast-result-2 : tie.Need-cast-result-2
 cast-result-2 c = search needs
 
--- src/lib.rt:27:1
 returns-2 : tie.Need-returns-2
 returns-2 c = search (needs, rows-many)
 

@@ -4,43 +4,31 @@ use borrow.Author.Needs.{needs}
 use Rattle.gtfs_read.proofs.Answers.{told-done, told-bad, told-full}
 use Rattle.gtfs_read.proofs.told_by.Statement.{statement}
 use Rattle.gtfs_read.proofs.told_by.Tie as tie
-use Rattle.gtfs_read.proofs.told_by.Reads as reads
-use Rattle.gtfs_read.proofs.told_by.Lts as lts
-use Rattle.gtfs_read.proofs.both_told.Reads as both-told-reads
 
--- src/lib.rt:104:25
 enum-told : tie.Need-enum-told
 enum-told c = search needs
 
--- src/lib.rt:104:25
 both-told-requires : tie.Need-both-told-requires
 both-told-requires c κs = search needs
 
--- src/lib.rt:104:25
 returns : tie.Need-returns
 returns c = search (needs, told-done)
 
--- src/lib.rt:105:21
 enum-known-ending : tie.Need-enum-known-ending
 enum-known-ending c = search needs
 
--- src/lib.rt:105:30
 both-told-requires-2 : tie.Need-both-told-requires-2
 both-told-requires-2 c κs = search needs
 
--- src/lib.rt:105:30
 returns-2 : tie.Need-returns-2
 returns-2 c = search (needs, told-bad)
 
--- src/lib.rt:106:25
 enum-told-2 : tie.Need-enum-told-2
 enum-told-2 c = search needs
 
--- src/lib.rt:106:25
 both-told-requires-3 : tie.Need-both-told-requires-3
 both-told-requires-3 c κs = search needs
 
--- src/lib.rt:106:25
 returns-3 : tie.Need-returns-3
 returns-3 c = search (needs, told-full)
 

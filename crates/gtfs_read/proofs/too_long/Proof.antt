@@ -4,10 +4,7 @@ use borrow.Author.Needs.{needs}
 use Rattle.gtfs_read.proofs.Answers.{long-told}
 use Rattle.gtfs_read.proofs.too_long.Statement.{statement}
 use Rattle.gtfs_read.proofs.too_long.Tie as tie
-use Rattle.gtfs_read.proofs.too_long.Reads as reads
-use Rattle.gtfs_read.proofs.too_long.Lts as lts
 
--- src/lib.rt:51:1
 returns : tie.Need-returns
 returns c = search (needs, long-told)
 

@@ -10,7 +10,9 @@ use Rattle.gtfs_transfers.proofs.read_rows.Statement.{statement}
 use Rattle.gtfs_transfers.proofs.read_rows.Tie as tie
 
 abbrev Inv-loop : tie.InvT-loop
-Inv-loop first second paths₀ stops₀ room c i₀ at₀ paths stops i at = Pacing first second c room (at₀ .split) (rowsRead room c (at₀ .split) i₀ first second stops₀) paths₀ stops₀ i at paths stops × (length paths ≡ length paths₀) × (length stops ≡ length stops₀)
+Inv-loop first second paths₀ stops₀ room c i₀ at₀ paths stops i at =
+    Pacing first second c room (at₀ .split) (rowsRead room c (at₀ .split) i₀ first second stops₀) paths₀ stops₀ i at paths stops
+    × (length paths ≡ length paths₀) × (length stops ≡ length stops₀)
 
 abbrev μ-loop : tie.MeasureT-loop
 μ-loop first second paths₀ stops₀ room c i₀ at₀ paths stops i at = length second + 1 - i
@@ -18,8 +20,11 @@ abbrev μ-loop : tie.MeasureT-loop
 loop-holds : tie.Need-loop-holds Inv-loop μ-loop
 loop-holds c = (search (needs, pacing-start), search needs, search needs)
 
-next-line-requires : tie.Need-next-line-requires Inv-loop μ-loop
-next-line-requires c κs = search needs
+line-requires : tie.Need-line-requires Inv-loop μ-loop
+line-requires c κs = search needs
+
+transfer-line-requires : tie.Need-transfer-line-requires Inv-loop μ-loop
+transfer-line-requires c κs = search needs
 
 enum-told : tie.Need-enum-told Inv-loop μ-loop
 enum-told c = search needs
@@ -88,7 +93,8 @@ read-rows-spec =
     Inv-loop
     μ-loop
     loop-holds
-    next-line-requires
+    line-requires
+    transfer-line-requires
     enum-told
     add-t17
     told-requires

@@ -14,11 +14,8 @@ told-requires c κs = search needs
 returns : tie.Need-returns
 returns c = (search (needs, none-told), search (needs, none-left))
 
-line-end-requires : tie.Need-line-end-requires
-line-end-requires c κs = search needs
-
-text-end-requires : tie.Need-text-end-requires
-text-end-requires c κs = search needs
+line-requires : tie.Need-line-requires
+line-requires c κs = search needs
 
 transfers-header-requires : tie.Need-transfers-header-requires
 transfers-header-requires c κs = search needs
@@ -34,9 +31,6 @@ returns-2 c = (search (needs, head-told), search (needs, head-left))
 
 enum-known-head : tie.Need-enum-known-head
 enum-known-head c = search needs
-
-add-t18 : tie.Need-add-t18
-add-t18 c = search needs
 
 read-rows-requires : tie.Need-read-rows-requires
 read-rows-requires c κs = search (needs, begins)
@@ -57,14 +51,12 @@ read-transfers-spec =
     start-requires
     told-requires
     returns
-    line-end-requires
-    text-end-requires
+    line-requires
     transfers-header-requires
     enum-told
     told-requires-2
     returns-2
     enum-known-head
-    add-t18
     read-rows-requires
     same-length
     same-length-2

@@ -4,40 +4,28 @@ use borrow.Author.Needs.{needs}
 use Rattle.gtfs_rows.proofs.Naming.{row-in, after-entry}
 use Rattle.gtfs_rows.proofs.times.enter.Statement.{statement}
 use Rattle.gtfs_rows.proofs.times.enter.Tie as tie
-use Rattle.gtfs_rows.proofs.times.enter.Reads as reads
-use Rattle.gtfs_rows.proofs.times.enter.Lts as lts
-use Rattle.gtfs_rows.proofs.books.name.Reads as name-reads
-use Rattle.gtfs_rows.proofs.times.put_row.Reads as put-row-reads
 
--- src/times.rt:169:9
 name-requires : tie.Need-name-requires
 name-requires c κs = (search needs, (search needs, (search needs, (search needs, (search needs, search needs)))))
 
--- src/times.rt:170:9
 name-requires-2 : tie.Need-name-requires-2
 name-requires-2 c κs = (search needs, (search needs, (search needs, (search needs, (search needs, search needs)))))
 
--- src/times.rt:171:5
 put-row-requires : tie.Need-put-row-requires
 put-row-requires c κs = search (needs, row-in)
 
--- src/times.rt:175:16
 add-t22 : tie.Need-add-t22
 add-t22 c = search needs
 
--- src/times.rt:144:1
 same-length : tie.Need-same-length
 same-length c = search needs
 
--- src/times.rt:144:1
 same-length-2 : tie.Need-same-length-2
 same-length-2 c = search needs
 
--- src/times.rt:144:1
 same-length-3 : tie.Need-same-length-3
 same-length-3 c = search needs
 
--- src/times.rt:144:1
 returns : tie.Need-returns
 returns c = (search (needs, after-entry), (search needs, (search needs, search needs)))
 

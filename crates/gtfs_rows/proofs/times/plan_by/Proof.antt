@@ -4,22 +4,16 @@ use borrow.Author.Needs.{needs}
 use Rattle.gtfs_rows.proofs.Taking.{no-trip, no-stop, no-row, a-row}
 use Rattle.gtfs_rows.proofs.times.plan_by.Statement.{statement}
 use Rattle.gtfs_rows.proofs.times.plan_by.Tie as tie
-use Rattle.gtfs_rows.proofs.times.plan_by.Reads as reads
-use Rattle.gtfs_rows.proofs.times.plan_by.Lts as lts
 
--- src/times.rt:102:9
 returns : tie.Need-returns
 returns c = search (needs, no-trip)
 
--- src/times.rt:105:9
 returns-2 : tie.Need-returns-2
 returns-2 c = search (needs, no-stop)
 
--- src/times.rt:108:9
 returns-3 : tie.Need-returns-3
 returns-3 c = search (needs, no-row)
 
--- src/times.rt:98:1
 returns-4 : tie.Need-returns-4
 returns-4 c = search (needs, a-row)
 

@@ -1,11 +1,10 @@
--- `gtfs::print_transfers` ends: a row more each turn.
+-- `gtfs_telling::print_times` ends: a row more each turn.
 -- Assumes nothing.
 use borrow.Author.Needs.{needs}
 use Prim.Native.Nat.{_≤_, _-_, _/_}
-use mathlib.Core.Path.{_≡_}
 use lib.ListN.{length}
-use Rattle.gtfs.proofs.print_transfers.Statement.{statement}
-use Rattle.gtfs.proofs.print_transfers.Tie as tie
+use Rattle.gtfs_telling.proofs.print_times.Statement.{statement}
+use Rattle.gtfs_telling.proofs.print_times.Tie as tie
 
 abbrev Inv-loop : tie.InvT-loop
 Inv-loop words i₀ t3 t4 i = 0 ≤ i
@@ -64,20 +63,20 @@ shared-slice-read-field-3 c = search needs
 field-requires-3 : tie.Need-field-requires-3 Inv-loop μ-loop
 field-requires-3 c κs = search needs
 
-mul-span : tie.Need-mul-span Inv-loop μ-loop
-mul-span c = search needs
+mul-field-7 : tie.Need-mul-field-7 Inv-loop μ-loop
+mul-field-7 c = search needs
 
-add-span : tie.Need-add-span Inv-loop μ-loop
-add-span c = search needs
+add-field-3 : tie.Need-add-field-3 Inv-loop μ-loop
+add-field-3 c = search needs
 
-mul-span-2 : tie.Need-mul-span-2 Inv-loop μ-loop
-mul-span-2 c = search needs
+mul-field-8 : tie.Need-mul-field-8 Inv-loop μ-loop
+mul-field-8 c = search needs
 
-shared-slice-read-span : tie.Need-shared-slice-read-span Inv-loop μ-loop
-shared-slice-read-span c = search needs
+shared-slice-read-field-4 : tie.Need-shared-slice-read-field-4 Inv-loop μ-loop
+shared-slice-read-field-4 c = search needs
 
-span-requires : tie.Need-span-requires Inv-loop μ-loop
-span-requires c κs = search needs
+field-requires-4 : tie.Need-field-requires-4 Inv-loop μ-loop
+field-requires-4 c κs = search needs
 
 slice-aggregate-text-2 : tie.Need-slice-aggregate-text-2 Inv-loop μ-loop
 slice-aggregate-text-2 c = search needs
@@ -97,8 +96,8 @@ loop-again c = search needs
 returns : tie.Need-returns Inv-loop μ-loop
 returns c = search needs
 
-pub print-transfers-spec : {M : Type 1} → statement M
-print-transfers-spec =
+pub print-times-spec : {M : Type 1} → statement M
+print-times-spec =
     tie.close
     (tie.spec
     Inv-loop
@@ -120,11 +119,11 @@ print-transfers-spec =
     mul-field-6
     shared-slice-read-field-3
     field-requires-3
-    mul-span
-    add-span
-    mul-span-2
-    shared-slice-read-span
-    span-requires
+    mul-field-7
+    add-field-3
+    mul-field-8
+    shared-slice-read-field-4
+    field-requires-4
     slice-aggregate-text-2
     text-requires-2
     add-i

@@ -1,11 +1,10 @@
--- `gtfs::begins` ends: a word more each turn.
+-- `gtfs_again::begins` ends: a word more each turn.
 -- Assumes nothing.
 use borrow.Author.Needs.{needs}
-use Prim.Native.Nat.{_≤_, _-_, _/_}
-use mathlib.Core.Path.{_≡_}
+use Prim.Native.Nat.{_≤_, _-_}
 use lib.ListN.{length}
-use Rattle.gtfs.proofs.begins.Statement.{statement}
-use Rattle.gtfs.proofs.begins.Tie as tie
+use Rattle.gtfs_again.proofs.begins.Statement.{statement}
+use Rattle.gtfs_again.proofs.begins.Tie as tie
 
 abbrev Inv-loop : tie.InvT-loop
 Inv-loop words other i₀ i = 0 ≤ i
