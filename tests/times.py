@@ -4,7 +4,7 @@
 # times.py warn LOG: says where this run went beyond the rule. It never fails: seconds are not the same on every machine and in every run.
 import glob, math, os, re, statistics, sys
 
-PAGE, MOST, FILES, SLOWER = "docs/CHECK-TIMES.md", 25, 2, {"x86-64": 1, "Arm": 1.58}
+PAGE, MOST, FILES = "docs/CHECK-TIMES.md", 25, 2
 # The crates that were there when the rule was made, and may take longer than a new one. The minutes of all bound them.
 OLD = "discovery check_calls check_listing allocator explorer_rides raptor_rounds raptor kiosk_c replay telling querying kiosk".split()
 # The crates that "Read GTFS files directly" brought: by them it added more minutes than a request may.
@@ -43,11 +43,18 @@ def said_by(log):
 
 
 def on_page(page):
-    """What the page has: the seconds of each crate and of its edits, the processor, the minutes that the gate may take."""
+    """What the page has: the seconds of each crate and of its edits, the pace of its machine, the minutes that the gate may take."""
     rows = re.findall(r"^\| (\w+) \| (\d*) \| \d+ \| \d+ \| (\d*) \|$", page, re.M)
-    kind = re.search(r"cores \(([^)]*)\)", page)
+    pace = re.search(r"which takes ([\d.]+) times as long as that of the rule", page)
     may = re.search(r"may take \*\*(\d+)\*\* minutes of one core", page)
-    return {n: int(s or 0) for n, s, e in rows}, {n: int(e or 0) for n, s, e in rows}, kind and kind.group(1), may and int(may.group(1))
+    return {n: int(s or 0) for n, s, e in rows}, {n: int(e or 0) for n, s, e in rows}, float(pace.group(1)) if pace else 1, may and int(may.group(1))
+
+
+def pace_of(proved, page):
+    """How much longer a run takes than one on the machine of the rule: the median over the crates that the page knows."""
+    was, _, pace, _ = on_page(page)
+    known = [proved[n] / was[n] for n in proved if was.get(n, 0) >= 5]
+    return (statistics.median(known) if known else 1) * pace
 
 
 def written(log):
@@ -55,10 +62,11 @@ def written(log):
     last = re.findall(r"^\d+ passed, \d+ failed$", log, re.M)
     whole = re.search(r"^real\s+(\d+)m", log, re.M)
     machine = {"x86_64": "x86-64", "aarch64": "Arm"}.get(os.uname().machine, os.uname().machine)
-    slower = SLOWER.get(machine, 1)
+    old = open(PAGE, encoding="utf-8").read()
+    slower = round(pace_of(proved, old), 2)
     seconds, extra = sum(proved.values()), sum(edits.values())
     total = (seconds + extra) / 60 / slower
-    may = on_page(open(PAGE, encoding="utf-8").read())[3]
+    may = on_page(old)[3]
     may = min(may or 999, math.ceil(total) + 1)  # it goes down by itself, and up by hand
     counts = {name: edits_of(name) for name in crates()}
     rows = "\n".join(f"| {n} | {proved.get(n, '')} | {counts[n][0]} | {counts[n][1]} | {edits.get(n) or ''} |" for n in crates())
@@ -66,8 +74,8 @@ def written(log):
     more = "\n".join(f"| `{n}` | {count} | {why} |" for n, (count, why) in MORE.items())
     page = f"""# Check times
 
-The seconds that `rt ci` gave for each crate on {os.cpu_count()} cores ({machine}), two crates side by side. A file of must-fail edits costs its crate's whole check
-again: the {sum(c[0] for c in counts.values())} edits, in {sum(c[1] for c in counts.values())} files, take {extra // 60} minutes of one core, the {len(counts)} crates {seconds // 60}. `tests/times.py LOG` makes this page from what `./test` said.
+The seconds that `rt ci` gave for each crate on {os.cpu_count()} cores ({machine}), two crates side by side, on a machine which takes {slower} times as long as that of the
+rule, by the crates that the page before had too. A file of must-fail edits costs its crate's whole check again: the {sum(c[0] for c in counts.values())} edits, in {sum(c[1] for c in counts.values())} files, take {extra // 60} minutes of one core, the {len(counts)} crates {seconds // 60}. `tests/times.py LOG` makes this page from what `./test` said.
 [README.md](../README.md) leads to the other pages; [BENCHMARKS.md](BENCHMARKS.md) has the times of the search itself.
 
 | crate | seconds | must-fail edits | files of them | seconds of them all |
@@ -79,7 +87,7 @@ proved once, by `rt ci`; what is then compared with the Rust, plain C and bad in
 
 ## The rule
 
-1. A new crate takes at most {MOST} seconds on x86-64. The crates that were there before may take longer: {', '.join(f'`{n}`' for n in OLD)}.
+1. A new crate takes at most {MOST} seconds on the machine of the rule, which was x86-64. The crates that were there before may take longer: {', '.join(f'`{n}`' for n in OLD)}.
 2. The edits of a crate stand in at most two files, `parts.edit` and `parts_2.edit`, each edit under a line `part: NAME`. A refusal of its own must tell each
    part from the others of its file (`tests/edits.py`): so a file has at most one edit of a function, and an edit of a definition only beside functions
    that do not speak of it. The crates that have more files, and may not have more than this:
@@ -88,12 +96,13 @@ proved once, by `rt ci`; what is then compared with the Rust, plain C and bad in
 |---|---|---|
 {more}
 
-3. The crates and the edits may take **{may}** minutes of one core, on x86-64, as the table above counts them. A request may add 2 at most, by hand; where a
+3. The crates and the edits may take **{may}** minutes of one core of that machine, as the table above counts them. A request may add 2 at most, by hand; where a
    page made anew comes to less, the number goes down with it. After all fourteen requests the gate is to stay under 45 minutes on two cores. "Read GTFS
    files directly" (02) added more, and is the exception: it brought a subject of its own, {len(FEED)} crates with their edits that share nothing with the search,
    and nothing that was there takes longer. Before it the number was 33.
 
-Seconds are not the same on every machine: Arm takes {SLOWER['Arm']} times as long, and other work on the machine more. So `tests/times.py check`, which the gate runs
+Seconds are not the same on every machine: one Arm (Neoverse-N1) took 1.58 times as long as the x86-64 of the rule, another (Neoverse-V1) about as long, and
+other work on a machine makes it more. So `tests/times.py check`, which the gate runs
 first, holds the rule over this page and the tree's files, and not over its own clock: who adds a crate makes the page anew from a quiet run, and then it
 stands by these numbers. After `rt ci` the gate says where its own run went beyond them, measured by the crates that the page knows, and goes on.
 """
@@ -104,8 +113,7 @@ stands by these numbers. After `rt ci` the gate says where its own run went beyo
 
 def check():
     wrong = []
-    proved, edits, kind, may = on_page(open(PAGE, encoding="utf-8").read())
-    slower = SLOWER.get(kind, 1)
+    proved, edits, slower, may = on_page(open(PAGE, encoding="utf-8").read())
     for name in crates():
         files = edits_of(name)[1]
         most = MORE.get(name, (FILES, ""))[0]
@@ -129,18 +137,18 @@ def check():
 
 def warn(log):
     proved, edits = said_by(log)
-    was, was_edits, kind, may = on_page(open(PAGE, encoding="utf-8").read())
-    known = [proved[n] / was[n] for n in proved if was.get(n, 0) >= 5]
-    pace = (statistics.median(known) if known else 1) * SLOWER.get(kind, 1)  # how much slower this run is than a quiet one on x86-64
+    page = open(PAGE, encoding="utf-8").read()
+    was, _, _, may = on_page(page)
+    pace = pace_of(proved, page)
     for name in crates():
         if name not in was:
             print(f"{PAGE} does not know {name}: tests/times.py LOG")
         if proved.get(name, 0) / pace > MOST and name not in OLD:
-            print(f"{name} took {proved[name]} seconds, {proved[name] / pace:.0f} at the page's pace: a new crate may take {MOST}")
+            print(f"{name} took {proved[name]} seconds, {proved[name] / pace:.0f} at the rule's pace: a new crate may take {MOST}")
     total = (sum(proved.values()) + sum(edits.values())) / 60
     if may and total / pace > may:
-        print(f"the crates and edits took {total:.1f} minutes of one core, {total / pace:.1f} at the page's pace: they may take {may}")
-    print(f"check times: {total:.1f} minutes of one core, {total / pace:.1f} at the page's pace")
+        print(f"the crates and edits took {total:.1f} minutes of one core, {total / pace:.1f} at the rule's pace: they may take {may}")
+    print(f"check times: {total:.1f} minutes of one core, {total / pace:.1f} at the rule's pace")
 
 
 if __name__ == "__main__":

@@ -1,6 +1,7 @@
 #!/usr/bin/env python3
 # letter.py: fills in the foot of docs/LETTER.md: what is signed for, by sums that anybody can make again. The crates must be committed; what is not proved
-# yet is proved first (`rt check`), and the archive is built anew (`rt staticlib kiosk_c`), so it wants x86-64. RT names another `rt`.
+# yet is proved first (`rt check`), and the archive is built anew (`rt staticlib kiosk_c`): for x86-64, and the same bytes on every machine that builds
+# it. RT names another `rt`.
 # letter.py check: the foot is that of this tree's sources, commit and kit, and the letter is one page without a word of ours that it does not explain.
 # letter.py proved: it is that of the verdicts in target/log, and of the archive.
 import datetime, hashlib, os, re, shutil, subprocess, sys
@@ -93,8 +94,8 @@ def assumed():
 
 
 def archive():
-    """The archive's sum; it is made where it is not there. None on another machine than it is for."""
-    if not os.path.exists(ARCHIVE) and os.uname().machine == "x86_64" and shutil.which(RT):
+    """The archive's sum; it is made where it is not there. None where there is no rt to make it."""
+    if not os.path.exists(ARCHIVE) and shutil.which(RT):
         tool(RT, "staticlib", "kiosk_c")
     return digest(ARCHIVE) if os.path.exists(ARCHIVE) else None
 
@@ -210,7 +211,7 @@ def proved():
     if kit and other_kit(found, kit):
         print("another kit built the archive that is signed for: its sum is not compared")
     elif made is None:
-        print("the archive is for x86-64 and is not built here: its sum is not compared")
+        print("no rt here: the archive is not built, and its sum is not compared")
     elif made != bare(starting(found, "the sum of the library")):
         wrong.append(f"the archive's sum is {made}")
     return wrong

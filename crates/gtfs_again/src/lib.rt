@@ -73,8 +73,8 @@ fn read_again(stop_times: &[u8], transfers: &[u8], times: &[u32], paths: &[u32],
     compare(times, paths, t, &again, &again_paths, u);
 }
 
-// Writes the transfers behind the times, which are written, and reads both again.
-fn write_paths_in(out: &mut [u8], stop_times: &[u8], times: &[u32], paths: &[u32], t: Told) {
+// Writes the transfers, where the times are written, and reads both files.
+fn write_paths(stop_times: &[u8], out: &mut [u8], times: &[u32], paths: &[u32], t: Told) {
     let written = gtfs_write_transfers::write_transfers(paths, t.split, out);
     match written {
         Written::Refused(k) => {
@@ -91,13 +91,8 @@ fn write_paths_in(out: &mut [u8], stop_times: &[u8], times: &[u32], paths: &[u32
     }
 }
 
-fn write_paths(stop_times: &[u8], times: &[u32], paths: &[u32], t: Told) {
-    let mut out = [0u8; 1536];
-    write_paths_in(&mut out, stop_times, times, paths, t);
-}
-
-// Writes the times, then the transfers.
-fn write_in(out: &mut [u8], times: &[u32], paths: &[u32], t: Told) {
+// Writes the times into one buffer, then the transfers into the other.
+fn write_both(out: &mut [u8], more: &mut [u8], times: &[u32], paths: &[u32], t: Told) {
     let written = gtfs_write_times::write_times(times, out);
     match written {
         Written::Refused(k) => {
@@ -108,7 +103,7 @@ fn write_in(out: &mut [u8], times: &[u32], paths: &[u32], t: Told) {
             if out.len() < n {
                 return;
             }
-            write_paths(&out[..n], times, paths, t);
+            write_paths(&out[..n], more, times, paths, t);
             return;
         }
     }
@@ -117,5 +112,6 @@ fn write_in(out: &mut [u8], times: &[u32], paths: &[u32], t: Told) {
 // Writes the rows, reads them again and says whether they are the same.
 pub fn write_and_read(times: &[u32], paths: &[u32], t: Told) {
     let mut out = [0u8; 9280];
-    write_in(&mut out, times, paths, t);
+    let mut more = [0u8; 1536];
+    write_both(&mut out, &mut more, times, paths, t);
 }

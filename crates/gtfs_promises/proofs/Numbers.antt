@@ -70,9 +70,10 @@ module _ {a b : List ℕ} {l : LentFeed} {r : Told} {l′ : LentFeed} (m : Reads
   ended-says : BothShort a b → {g : Got} → Ends (feedRoom l) a b g
       → AnswersWith r (numberFor (g .end)) (lineFor (g .end)) (fileFor (g .end)) × Holds a b l r l′ (g .feed)
   ended-says s {g} y =
-      let e = ends-exactly (feedRoom l) a b y in
-      (told-says (splitOf (feedRoom l) a) g (short-told m (short-test s) ∙ ap (toldBy (splitOf (feedRoom l) a)) e),
-      rw e at (read-holds m (short-test s)))
+      let e = ends-exactly (feedRoom l) a b y in (
+        told-says (splitOf (feedRoom l) a) g (short-told m (short-test s) ∙ ap (toldBy (splitOf (feedRoom l) a)) e),
+        rw e at (read-holds m (short-test s)),
+      )
 
   -- ---- the promises
   -- r's number is 0, 1, 14 or 15; a line and a file stand beside 14 alone

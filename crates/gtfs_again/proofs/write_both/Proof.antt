@@ -1,9 +1,9 @@
--- `gtfs_again::write_in`: a part is as long as it was cut.
+-- `gtfs_again::write_both`: a part is as long as it was cut.
 -- Assumes nothing.
 use borrow.Author.Needs.{needs}
 use lib.Seq.{length-take-le}
-use Rattle.gtfs_again.proofs.write_in.Statement.{statement}
-use Rattle.gtfs_again.proofs.write_in.Tie as tie
+use Rattle.gtfs_again.proofs.write_both.Statement.{statement}
+use Rattle.gtfs_again.proofs.write_both.Tie as tie
 
 write-times-requires : tie.Need-write-times-requires
 write-times-requires c κs = search needs
@@ -41,11 +41,14 @@ write-paths-requires c κs = search needs
 same-length-3 : tie.Need-same-length-3
 same-length-3 c = search needs
 
+same-length-4 : tie.Need-same-length-4
+same-length-4 c = search needs
+
 returns-3 : tie.Need-returns-3
 returns-3 c = search needs
 
-pub write-in-spec : {M : Type 1} → statement M
-write-in-spec =
+pub write-both-spec : {M : Type 1} → statement M
+write-both-spec =
     tie.close
     (tie.spec
     write-times-requires
@@ -60,4 +63,5 @@ write-in-spec =
     slice-aggregate-write-paths
     write-paths-requires
     same-length-3
+    same-length-4
     returns-3)

@@ -1,9 +1,9 @@
--- `gtfs_again::write_paths_in`: a part is as long as it was cut.
+-- `gtfs_again::write_paths`: a part is as long as it was cut.
 -- Assumes nothing.
 use borrow.Author.Needs.{needs}
 use lib.Seq.{length-take-le}
-use Rattle.gtfs_again.proofs.write_paths_in.Statement.{statement}
-use Rattle.gtfs_again.proofs.write_paths_in.Tie as tie
+use Rattle.gtfs_again.proofs.write_paths.Statement.{statement}
+use Rattle.gtfs_again.proofs.write_paths.Tie as tie
 
 write-transfers-requires : tie.Need-write-transfers-requires
 write-transfers-requires c κs = search needs
@@ -44,8 +44,8 @@ same-length-3 c = search needs
 returns-3 : tie.Need-returns-3
 returns-3 c = search needs
 
-pub write-paths-in-spec : {M : Type 1} → statement M
-write-paths-in-spec =
+pub write-paths-spec : {M : Type 1} → statement M
+write-paths-spec =
     tie.close
     (tie.spec
     write-transfers-requires
