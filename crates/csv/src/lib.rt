@@ -1,8 +1,8 @@
 // Lines and fields of a text that is lent as bytes.
-ghost use mathlib.Core.Bool.{true, false};
+ghost use mathlib.Core.Bool.{false};
 ghost use mathlib.Core.Path.{_≡_};
-ghost use Prim.Native.Nat.{_+_, _-_, _≤_, _<_};
-ghost use lib.ListN.{length, getD, drop};
+ghost use Prim.Native.Nat.{_+_, _≤_, _<_};
+ghost use lib.ListN.{length, drop};
 ghost use Rattle.csv.specs.Part.{part};
 ghost use Rattle.csv.specs.Texts.{sameText};
 ghost use Rattle.csv.specs.Lines.{lineOf, afterLine, trimmed};

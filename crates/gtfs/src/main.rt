@@ -3,6 +3,7 @@
 ghost use Prim.Native.Nat.{_≤_, _<_};
 ghost use lib.ListN.{length};
 use gtfs_read::Told;
+use gtfs_telling::Row;
 use libc::STDIN_FILENO;
 
 // Whether a line that is twice the byte begins here.
@@ -56,8 +57,8 @@ fn show(times: &[u32], paths: &[u32], t: Told) {
     }
     gtfs_telling::print_number(t);
     gtfs_telling::print_counts(t);
-    gtfs_telling::print_times(&times[..n]);
-    gtfs_telling::print_transfers(&paths[..m]);
+    gtfs_telling::print_rows(Row::Time, &times[..n]);
+    gtfs_telling::print_rows(Row::Transfer, &paths[..m]);
     gtfs_again::write_and_read(&times[..n], &paths[..m], t);
 }
 

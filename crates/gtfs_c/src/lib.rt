@@ -2,7 +2,7 @@
 // pointer and a length.
 ghost use mathlib.Core.Path.{_≡_};
 ghost use mathlib.Core.List.{_∷_, []};
-ghost use Prim.Native.Nat.{_+_, _≤_, _<_};
+ghost use Prim.Native.Nat.{_≤_, _<_};
 ghost use lib.ListN.{length};
 ghost use Rattle.base.specs.Put.{withBytes};
 ghost use Rattle.feed.specs.Rows.{timeRowsIn, transferRowsIn};
@@ -13,6 +13,7 @@ ghost use Rattle.gtfs_read.specs.Reads.{lentFeed};
 ghost use Rattle.gtfs_c.specs.FeedFace.{writingNumber, writingSize, writingWords, writingAnswer, writingTold, writingLeft};
 ghost use Rattle.gtfs_c.specs.FeedFace.{readingWords, readingShort, FeedFaced};
 use gtfs_read::Told;
+use gtfs_rows::rows;
 use gtfs_write::Written;
 
 // Puts the two words that are told of a writing.
@@ -79,25 +80,14 @@ pub extern "C" fn kiosk_gtfs_write_transfers(
     tell_written(told, w)
 }
 
-// Puts four words from a place on.
-fn put_four(told: &mut [u32], at: usize, a: u32, b: u32, c: u32, d: u32)
-    requires { ⌜ at + 4 ≤ length (now told) ⌝ }
-    ensures { λ _. ⌜ now (told .exit) ≡ withBytes (now (told .entry)) at (a ∷ b ∷ c ∷ d ∷ []) ⌝ }
-{
-    told[at] = a;
-    told[at + 1] = b;
-    told[at + 2] = c;
-    told[at + 3] = d;
-}
-
 // Tells of a reading, and gives its number.
 fn tell_read(told: &mut [u32], t: Told) -> u32
     requires { ⌜ 8 ≤ length (now told) ⌝ }
     ensures { λ r. ⌜ r ≡ t .number ⌝ }
     ensures { λ _. ⌜ now (told .exit) ≡ withBytes (now (told .entry)) 0 (readingWords t) ⌝ }
 {
-    put_four(told, 0, t.number, t.line, t.file, t.stops);
-    put_four(told, 4, t.split, t.trips, t.times, t.transfers);
+    rows::put_row(told, 0, t.number, t.line, t.file, t.stops);
+    rows::put_row(told, 1, t.split, t.trips, t.times, t.transfers);
     t.number
 }
 

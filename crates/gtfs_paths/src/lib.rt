@@ -14,7 +14,7 @@ use columns::Span;
 use feed::Room;
 use feed::TransferSpans;
 use gtfs_rows::books;
-use gtfs_rows::times;
+use gtfs_rows::rows;
 use names::Shelf;
 
 // So many names of stops stand in the first file, so many in both, and so many rows are taken.
@@ -159,7 +159,7 @@ pub fn enter(
 {
     let line = entry.line;
     let named = name_both(first, second, stops, room, at, entry);
-    times::put_row(
+    rows::put_row(
         paths,
         at.transfers,
         entry.from,

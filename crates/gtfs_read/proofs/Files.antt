@@ -5,6 +5,7 @@ use mathlib.Core.Path.{_≡_, refl, sym, ap, subst, _∙_}
 use mathlib.Core.List.{List}
 use native.Mathlib.Omega.{arith}
 use lib.ListN.{length}
+use Rattle.base.specs.Put.{withBytes}
 use Rattle.csv.specs.Lines.{lines}
 use Rattle.names.specs.Book.{namesIn}
 use Rattle.names.specs.Booked.{Booked}
@@ -20,7 +21,6 @@ use Rattle.feed.specs.Ending.{endingOf}
 use Rattle.gtfs_rows.proofs.Naming.{booked-on}
 use Rattle.gtfs_times.specs.declared.TimesTold.{TimesTold}
 use Rattle.gtfs_times.specs.Told.{timesTold, stopsLeft, tripsLeft, TimesLeft}
-use Rattle.gtfs_times.proofs.Going.{put-none}
 use Rattle.gtfs_transfers.specs.declared.TransfersTold.{TransfersTold}
 use Rattle.gtfs_transfers.specs.Told.{transfersTold, stopsOnly, firstShelf, transfersRead, pathsLeft, TransfersLeft, PathsLent}
 use Rattle.gtfs_read.specs.declared.Told.{Told}
@@ -101,12 +101,12 @@ module _ (room : Room) (a b : List ℕ) {first : TimesTold} (f : first ≡ times
     -- and leaves
     first-left : (y : List ℕ) → readFeed room a b ≡ readTimes room (lines (withoutMark a))
         → Left room a b (readFeed room a b) (lentFeed x y s t) (lentFeed x′ y s′ t′)
-    unfolding stopsShelf tripsShelf splitOf stopsLeft tripsLeft flatTransfers flatBy
+    unfolding withBytes stopsShelf tripsShelf splitOf stopsLeft tripsLeft flatTransfers flatBy
     first-left y h =
         rw h
         (record {
           times-left = l .rows-left;
-          transfers-left = rw (no-transfers room (lines (withoutMark a))) (sym (put-none y));
+          transfers-left = rw (no-transfers room (lines (withoutMark a))) refl;
           stops-left = booked-turn b (l .stops-left);
           trips-left = l .trips-left;
         })

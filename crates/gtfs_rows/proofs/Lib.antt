@@ -3,3 +3,4 @@ pub mod Named
 pub mod Taking
 pub mod Naming
 pub mod Taken
+pub mod Filling

@@ -1,8 +1,7 @@
 // A row of stop_times.txt: whether it is taken, and how.
 ghost use mathlib.Core.Path.{_≡_};
 ghost use mathlib.Core.List.{[], _∷_};
-ghost use Prim.Native.Nat.{_+_, _*_, _≤_, _<_};
-ghost use lib.ListN.{length};
+ghost use Prim.Native.Nat.{_*_};
 ghost use Rattle.base.specs.Put.{withBytes};
 ghost use Rattle.columns.specs.Picks.{textAt, Spanned};
 ghost use Rattle.names.specs.Book.{Book, namesIn};
@@ -12,6 +11,7 @@ ghost use Rattle.feed.specs.Spans.{timeAt};
 ghost use Rattle.gtfs_rows.specs.Named.{namesWith};
 ghost use Rattle.gtfs_rows.specs.Taking.{tripIs, planBy, planOf, stopShelf, tripShelf, afterEntry, Enters, Takeable, Takes};
 use super::books;
+use super::rows;
 use columns::Span;
 use feed::Room;
 use feed::TimeSpans;
@@ -154,18 +154,6 @@ pub fn plan_of(
     }
 }
 
-// Stores a row's four words.
-pub fn put_row(rows: &mut [u32], n: u32, one: u32, two: u32, three: u32, four: u32)
-    requires { ⌜ 4 * n + 4 ≤ length (now rows) ⌝ }
-    ensures { λ _. ⌜ now (rows .exit) ≡ withBytes (now (rows .entry)) (4 * n) (one ∷ two ∷ three ∷ four ∷ []) ⌝ }
-{
-    let at = 4 * (n as usize);
-    rows[at] = one;
-    rows[at + 1] = two;
-    rows[at + 2] = three;
-    rows[at + 3] = four;
-}
-
 // Takes a row: its names into the books where they are new, its words behind the others.
 pub fn enter(
     bytes: &[u8],
@@ -202,7 +190,7 @@ pub fn enter(
     };
     let named_trips = books::name(bytes, bytes, trips, trip_shelf, entry.trip, trip);
     let named_stops = books::name(bytes, bytes, stops, stop_shelf, entry.stop, stop);
-    put_row(
+    rows::put_row(
         times,
         at.times,
         entry.trip,

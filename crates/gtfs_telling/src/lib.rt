@@ -1,6 +1,19 @@
 // A feed in words: how its reading ended, how much was taken, and the rows.
 use gtfs_read::Told;
 
+// Of which file a row is.
+pub enum Row {
+    Time,
+    Transfer,
+}
+
+fn print_name(row: Row) {
+    match row {
+        Row::Time => print::text(b"time"),
+        Row::Transfer => print::text(b"transfer"),
+    }
+}
+
 // A span, or that none is stated.
 fn print_span(n: u32) {
     if n == 4294967295 {
@@ -10,27 +23,24 @@ fn print_span(n: u32) {
     print::field(n);
 }
 
-pub fn print_times(words: &[u32]) {
-    let mut i = 0;
-    while i < words.len() / 4 {
-        print::text(b"time");
-        print::field(words[4 * i]);
-        print::field(words[4 * i + 1]);
-        print::field(words[4 * i + 2]);
-        print::field(words[4 * i + 3]);
-        print::text(b"\n");
-        i += 1;
+// The last word of a row: a departure, or a span.
+fn print_last(row: Row, n: u32) {
+    match row {
+        Row::Time => print::field(n),
+        Row::Transfer => print_span(n),
     }
 }
 
-pub fn print_transfers(words: &[u32]) {
+// Rows of four words, each on a line.
+pub fn print_rows(row: Row, words: &[u32]) {
     let mut i = 0;
     while i < words.len() / 4 {
-        print::text(b"transfer");
-        print::field(words[4 * i]);
-        print::field(words[4 * i + 1]);
-        print::field(words[4 * i + 2]);
-        print_span(words[4 * i + 3]);
+        let at = 4 * i;
+        print_name(row);
+        print::field(words[at]);
+        print::field(words[at + 1]);
+        print::field(words[at + 2]);
+        print_last(row, words[at + 3]);
         print::text(b"\n");
         i += 1;
     }

@@ -1,14 +1,13 @@
 -- Rows read one by one: those that stand in the tables and what is left of the file say what all of them are.
 -- Assumes nothing.
-use Prim.Native.Nat.{ℕ, suc, _+_, _-_, _*_, _≤_, _<_}
+use Prim.Native.Nat.{ℕ, suc, _+_, _≤_, _<_}
 use mathlib.Core.Path.{_≡_, refl, sym, ap, subst, _∙_}
 use mathlib.Core.Option.{none, some}
 use mathlib.Core.List.{List, [], _∷_}
 use native.Mathlib.Omega.{arith}
-use lib.ListN.{length, drop, length-append, drop-of-length-le}
+use lib.ListN.{length, drop, drop-of-length-le}
 use Rattle.base.specs.Tab.{tab}
 use Rattle.base.specs.Put.{withBytes}
-use Rattle.base.proofs.Put.{put-then, put-length}
 use Rattle.csv.specs.Part.{part}
 use Rattle.csv.specs.Lines.{lines}
 use Rattle.csv.specs.declared.TextLine.{TextLine}
@@ -22,7 +21,7 @@ use Rattle.feed.specs.declared.TimesColumns.{TimesColumns}
 use Rattle.feed.specs.declared.TimeSpans.{TimeSpans}
 use Rattle.feed.specs.declared.Ending.the-variants.{Done, Bad as BadLine, Full as Filled}
 use Rattle.feed.specs.Feed.{TimeRow, Feed, emptyFeed, End, done, badTimes, full, Got}
-use Rattle.feed.specs.Times.{TimeLine, kept, bad, noRoom, timeLine, takeTime, timesFrom}
+use Rattle.feed.specs.Times.{timeLine, takeTime, timesFrom}
 use Rattle.feed.specs.Spans.{timeAt}
 use Rattle.feed.specs.Rows.{flatBy, timeWords, flatTimes}
 use Rattle.feed.proofs.Stopping.{time-none, time-bad, time-full, time-goes}
@@ -40,6 +39,7 @@ use Rattle.gtfs_rows.specs.declared.times.Took.the-variants.{Kept, Bad as Unfit
 use Rattle.gtfs_rows.specs.Taking.{withTime, stopShelf, tripShelf, afterEntry, Takeable, planIn, tookBy, LeftBy, Takes}
 use Rattle.gtfs_rows.proofs.Taking.{Plans, plan-right}
 use Rattle.gtfs_rows.proofs.Naming.{booked-on}
+use Rattle.gtfs_rows.proofs.Filling.{Filling, filling-start, filling-length, number-fits, row-more}
 use Rattle.gtfs_times.specs.declared.TimesTold.{TimesTold}
 use Rattle.gtfs_times.specs.Told.{timesTold, toldAt, TimesRoom, noNames, stopsLeft, tripsLeft, TimesLeft}
 
@@ -49,40 +49,18 @@ pub record Going (b : List ℕ) (c : TimesColumns) (room : Room) (whole : Got) (
   rest : timesFrom c room (at .times + 2) (lines (drop i b)) feed (at .last) ≡ whole
   stops-held : Booked b b (stopShelf room at) s₀ s (feed .stops)
   trips-held : Booked b b (tripShelf room at) t₀ t (feed .trips)
-  rows-held : x ≡ withBytes x₀ 0 (flatTimes (feed .times))
-  counted : length (feed .times) ≡ at .times
-  rows-few : at .times ≤ room .times
-  rows-room : 4 * room .times ≤ length x₀
-  inside : i ≤ length b + 1
-  lines-passed : at .times + 1 ≤ i
-  short : length b ≤ 4_294_967_295
+  filling : Filling b (room .times) x₀ i (at .times) (flatTimes (feed .times)) x
   small : room .times ≤ 4_294_967_295
 
 row-words : (r : TimeRow) → flatTimes (r ∷ []) ≡ r .trip ∷ r .stop ∷ r .arrival ∷ r .departure ∷ []
 unfolding flatTimes flatBy timeWords
 row-words r = refl
 
-pub put-none : (w : List ℕ) → withBytes w 0 [] ≡ w
-unfolding withBytes
-put-none w = refl
-
 -- ---- the loop
 module _ {b : List ℕ} {c : TimesColumns} {room : Room} {whole : Got} {x₀ s₀ t₀ : List ℕ} {i : ℕ} {at : Reached} {x s t : List ℕ}
     (g : Going b c room whole x₀ s₀ t₀ i at x s t) where
-  pub stop-book : Book b b (stopShelf room at) s
-  stop-book = g .stops-held .book
-
-  pub trip-book : Book b b (tripShelf room at) t
-  trip-book = g .trips-held .book
-
-  flat-long : length (flatTimes (g .feed .times)) ≡ 4 * at .times
-  flat-long = flat-times-length (g .feed .times) ∙ ap (λ (n : ℕ). 4 * n) (g .counted)
-
-  same-times : length x ≡ length x₀
-  same-times =
-      let few-rows = g .rows-few in
-      let room-rows = g .rows-room in
-      ap length (g .rows-held) ∙ put-length x₀ 0 (flatTimes (g .feed .times)) (omega (arith, flat-long))
+  counted : length (g .feed .times) ≡ at .times
+  counted = omega (arith, g .filling .rows, flat-times-length (g .feed .times))
 
   -- a reading that ends here
   module _ (z : End) (q : timesFrom c room (at .times + 2) (lines (drop i b)) (g .feed) (at .last) ≡ record { feed = g .feed; end = z }) where
@@ -94,7 +72,7 @@ module _ {b : List ℕ} {c : TimesColumns} {room : Room} {whole : Got} {x₀ s�
     told =
         let a : at .stops ≡ length (g .feed .stops) = booked-count (g .stops-held) in
         let d : at .trips ≡ length (g .feed .trips) = booked-count (g .trips-held) in
-        rw (← whole-is, a, d, ← g .counted)
+        rw (← whole-is, a, d, ← counted)
 
     left : TimesLeft room b whole x₀ s₀ t₀ x s t
     unfolding stopsLeft tripsLeft
@@ -102,7 +80,7 @@ module _ {b : List ℕ} {c : TimesColumns} {room : Room} {whole : Got} {x₀ s�
         let a : at .stops ≡ length (g .feed .stops) = booked-count (g .stops-held) in
         let d : at .trips ≡ length (g .feed .trips) = booked-count (g .trips-held) in
         record {
-          rows-left = g .rows-held ∙ ap (λ (y : Got). withBytes x₀ 0 (flatTimes (y .feed .times))) whole-is;
+          rows-left = g .filling .held ∙ ap (λ (y : Got). withBytes x₀ 0 (flatTimes (y .feed .times))) whole-is;
           stops-left = rw (← whole-is, ← a) (g .stops-held);
           trips-left = rw (← whole-is, ← d) (g .trips-held);
         }
@@ -121,7 +99,7 @@ module _ {b : List ℕ} {c : TimesColumns} {room : Room} {whole : Got} {x₀ s�
 
   -- the line's number fits 32 bits
   pub line-fits : i < length b → at .times + 2 ≤ 4_294_967_295
-  line-fits h = let p = g .lines-passed in let q = g .short in omega arith
+  line-fits h = number-fits (g .filling) h
 
   -- the line that begins at i
   module _ {l : TextLine} (m : LineAt b i l) {j : TimeRead} (o : timeRead b j ≡ timeLine c (part i (l .end) b)) where
@@ -152,8 +130,8 @@ module _ {b : List ℕ} {c : TimesColumns} {room : Room} {whole : Got} {x₀ s�
             trip-book = g .trips-held .book;
             stop-text = w .1;
             trip-text = w .0;
-            short = g .short;
-            rows = omega (arith, same-times, g .rows-room);
+            short = g .filling .short;
+            rows = omega (arith, filling-length (g .filling), g .filling .room);
             small = g .small;
           }
 
@@ -164,7 +142,7 @@ module _ {b : List ℕ} {c : TimesColumns} {room : Room} {whole : Got} {x₀ s�
       unfolding planIn
       right =
           rw (g .stops-held .texts, g .trips-held .texts)
-          (plan-right room (timeAt b v) (g .feed) at few (sym (booked-count (g .trips-held))) (g .counted))
+          (plan-right room (timeAt b v) (g .feed) at few (sym (booked-count (g .trips-held))) counted)
 
       no-plan : planIn b room at v s t ≡ Bad → timesFrom c room (at .times + 2) (lines (drop i b)) (g .feed) (at .last) ≡ record { feed = g .feed; end = badTimes (at .times + 2) }
       no-plan z =
@@ -180,17 +158,10 @@ module _ {b : List ℕ} {c : TimesColumns} {room : Room} {whole : Got} {x₀ s�
       unfolding afterEntry withTime timeAt
       entered-on {trip} {stop} z {x′} {s′} {t′} y =
           let w : Plans room (timeAt b v) (g .feed) (takeTime room (timeAt b v) (g .feed) (at .last)) (Enter trip stop) = rw z at right in
-          let f′ = withTime (g .feed) (timeAt b v) trip stop in
-          let passed = g .lines-passed in
-          let onward = m .further in
           let row : TimeRow = record { trip = trip; stop = stop; arrival = v .arrival; departure = v .departure } in
           let words = trip ∷ stop ∷ v .arrival ∷ v .departure ∷ [] in
-          let few-rows = g .rows-few in
-          let room-rows = g .rows-room in
-          let place : 4 * at .times ≡ 0 + length (flatTimes (g .feed .times)) = omega (arith, flat-long) in
-          let put : x′ ≡ withBytes x (0 + length (flatTimes (g .feed .times))) words = y .0 ∙ ap (λ (n : ℕ). withBytes x n words) place in
           record {
-            feed = f′;
+            feed = withTime (g .feed) (timeAt b v) trip stop;
             rest =
                 (let line : at .times + 1 + 2 ≡ suc (at .times + 2) = omega arith in
                 rw line
@@ -199,15 +170,9 @@ module _ {b : List ℕ} {c : TimesColumns} {room : Room} {whole : Got} {x₀ s�
                 ∙ g .rest));
             stops-held = booked-on (g .stops-held) (rw (g .stops-held .texts) at (y .1)) (seen-least (at .stops) stop);
             trips-held = booked-on (g .trips-held) (rw (g .trips-held .texts) at (y .2)) (seen-least (at .trips) trip);
-            rows-held =
+            filling =
                 rw (flat-times-append (g .feed .times) (row ∷ []), row-words row)
-                (put-then x₀ 0 (flatTimes (g .feed .times)) words (omega (arith, flat-long)) (g .rows-held) put);
-            counted = omega (arith, length-append (g .feed .times) (row ∷ []), g .counted);
-            rows-few = omega (arith, w .5, g .counted);
-            rows-room = g .rows-room;
-            inside = m .within;
-            lines-passed = omega arith;
-            short = g .short;
+                (row-more (g .filling) m (omega (arith, w .5, counted)) words refl (y .0));
             small = g .small;
           }
 
@@ -274,18 +239,12 @@ pub going-start : {b : List ℕ} {room : Room} {x s t : List ℕ} {from : ℕ} (
     → Book b b (noNames (room .stops)) s → Book b b (noNames (room .trips)) t → 1 ≤ from → from ≤ length b + 1
     → Going b c room (timesFrom c room 2 (lines (drop from b)) emptyFeed 0) x s t from (record { stops = 0; trips = 0; times = 0; last = 0 }) x s t
 unfolding flatTimes flatBy namesIn tab
-going-start {b} {room} {x} {s} {t} {from} c h k l m n =
+going-start c h k l m n =
     record {
       feed = emptyFeed;
       rest = refl;
       stops-held = record { book = k; texts = refl; long = refl; past = refl };
       trips-held = record { book = l; texts = refl; long = refl; past = refl };
-      rows-held = sym (put-none x);
-      counted = refl;
-      rows-few = omega arith;
-      rows-room = h .rows;
-      inside = n;
-      lines-passed = omega arith;
-      short = h .short;
+      filling = filling-start (h .rows) m n (h .short);
       small = h .small;
     }

@@ -1,11 +1,12 @@
 -- How a file begins: with no header, with a bad one, or with one whose columns are found.
 -- Assumes nothing.
-use Prim.Native.Nat.{ℕ, _+_, _-_, _≤_}
+use Prim.Native.Nat.{ℕ, _+_, _≤_}
 use mathlib.Core.Path.{_≡_, refl, sym, ap, subst, _∙_}
 use mathlib.Core.Option.{Option, none, some}
 use mathlib.Core.List.{List, _∷_}
 use native.Mathlib.Omega.{arith}
 use lib.ListN.{length, drop, drop-of-length-le}
+use Rattle.base.specs.Put.{withBytes}
 use Rattle.csv.specs.There.{ifThere}
 use Rattle.csv.specs.Part.{part}
 use Rattle.csv.specs.Lines.{lines}
@@ -32,7 +33,6 @@ use Rattle.gtfs_times.specs.declared.TimesTold.{TimesTold}
 use Rattle.gtfs_times.specs.declared.Opened.{Opened}
 use Rattle.gtfs_times.specs.declared.Opened.the-variants.{Rows, Bad as NoRows}
 use Rattle.gtfs_times.specs.Told.{timesTold, toldAt, unopened, OpensAs, Behind, Opens, Cleared, TimesRoom, noNames, stopsLeft, tripsLeft, TimesLeft}
-use Rattle.gtfs_times.proofs.Going.{put-none}
 
 -- ---- the header
 module _ (b : List ℕ) (a : ℕ) (m : drop a b ≡ withoutMark b) where
@@ -87,9 +87,9 @@ module _ (b : List ℕ) {room : Room} {s₀ t₀ s t : List ℕ} (cl : Cleared r
     none-told w = w ∙ rw nothing
 
     pub none-left : (x : List ℕ) → TimesLeft room b (readTimes room (lines (withoutMark b))) x s₀ t₀ x s t
-    unfolding flatTimes flatBy stopsLeft tripsLeft unopened
+    unfolding withBytes flatTimes flatBy stopsLeft tripsLeft unopened
     none-left x =
-        rw nothing (record { rows-left = sym (put-none x); stops-left = booked-none b b 0 (cl .no-stops); trips-left = booked-none b b 0 (cl .no-trips) })
+        rw nothing (record { rows-left = refl; stops-left = booked-none b b 0 (cl .no-stops); trips-left = booked-none b b 0 (cl .no-trips) })
 
   module _ (c : TimesColumns) (from : ℕ) (z : j ≡ Rows c from) where
     rows-are : readTimes room (lines (withoutMark b)) ≡ timesFrom c room 2 (lines (drop from b)) emptyFeed 0

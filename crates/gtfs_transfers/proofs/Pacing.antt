@@ -1,13 +1,12 @@
 -- Rows read one by one: those that stand in the table and what is left of the file say what all of them are.
 -- Assumes nothing.
-use Prim.Native.Nat.{ℕ, suc, _+_, _*_, _≤_, _<_}
+use Prim.Native.Nat.{ℕ, suc, _+_, _≤_, _<_}
 use mathlib.Core.Path.{_≡_, refl, sym, ap, _∙_}
 use mathlib.Core.Option.{none, some}
-use mathlib.Core.List.{List, [], _∷_, _++_}
+use mathlib.Core.List.{List, [], _∷_}
 use native.Mathlib.Omega.{arith}
-use lib.ListN.{length, drop, length-append, drop-of-length-le}
+use lib.ListN.{length, drop, drop-of-length-le}
 use Rattle.base.specs.Put.{withBytes}
-use Rattle.base.proofs.Put.{put-then, put-length}
 use Rattle.csv.specs.Part.{part}
 use Rattle.csv.specs.Lines.{lines}
 use Rattle.csv.specs.declared.TextLine.{TextLine}
@@ -31,6 +30,7 @@ use Rattle.feed.proofs.Rows.{flat-transfers-length, flat-transfers-append}
 use Rattle.feed.specs.Orderly.{seenAfter}
 use Rattle.feed.specs.Ending.{endingOf}
 use Rattle.gtfs_rows.proofs.Naming.{booked-here, booked-on}
+use Rattle.gtfs_rows.proofs.Filling.{Filling, filling-start, filling-length, number-fits, row-more}
 use Rattle.gtfs_paths.specs.declared.PathsReached.{PathsReached}
 use Rattle.gtfs_paths.specs.declared.PathPlan.{PathPlan}
 use Rattle.gtfs_paths.specs.declared.PathPlan.the-variants.{Enter, Full}
@@ -50,15 +50,9 @@ pub record Pacing (first second : List ℕ) (c : TransferColumns) (room : Room) 
   feed : Feed
   rest : transfersFrom c room (at .transfers + 2) (lines (drop i second)) feed ≡ whole
   held : Booked first second (pathShelf room at) s₀ s (feed .stops)
-  rows-held : p ≡ withBytes p₀ 0 (flatTransfers (feed .transfers))
-  counted : length (feed .transfers) ≡ at .transfers
-  rows-few : at .transfers ≤ room .transfers
-  rows-room : 4 * room .transfers ≤ length p₀
+  filling : Filling second (room .transfers) p₀ i (at .transfers) (flatTransfers (feed .transfers)) p
   turned : at .split ≤ at .stops
   cut-is : at .split ≡ cut
-  inside : i ≤ length second + 1
-  lines-passed : at .transfers + 1 ≤ i
-  short : length second ≤ 4_294_967_295
 
 row-words : (r : TransferRow) → flatTransfers (r ∷ []) ≡ r .from ∷ r .to ∷ r .kind ∷ r .span ∷ []
 unfolding flatTransfers flatBy transferWords
@@ -66,25 +60,22 @@ row-words r = refl
 
 pub pacing-start : {first second p s : List ℕ} (c : TransferColumns) {room : Room} {cut i : ℕ} → PathsBegin room cut i first second p s
     → Pacing first second c room cut (rowsRead room c cut i first second s) p s i (record { split = cut; stops = cut; transfers = 0 }) p s
-unfolding rowsRead withBytes flatTransfers flatBy
+unfolding rowsRead flatTransfers flatBy
 pacing-start {first} {second} {p} {s} c {room} {cut} {i} k = record {
   feed = stopsOnly (namesIn first second (turnedShelf room cut) s);
   rest = refl;
   held = booked-here (k .book);
-  rows-held = refl;
-  counted = refl;
-  rows-few = omega arith;
-  rows-room = k .rows;
+  filling = filling-start (k .rows) (k .headed) (k .inside) (k .short);
   turned = omega arith;
   cut-is = refl;
-  inside = k .inside;
-  lines-passed = k .headed;
-  short = k .short;
 }
 
 -- ---- the loop
 module _ {first second : List ℕ} {c : TransferColumns} {room : Room} {cut : ℕ} {whole : Got} {p₀ s₀ : List ℕ} {i : ℕ} {at : PathsReached}
     {p s : List ℕ} (g : Pacing first second c room cut whole p₀ s₀ i at p s) where
+  counted : length (g .feed .transfers) ≡ at .transfers
+  counted = omega (arith, g .filling .rows, flat-transfers-length (g .feed .transfers))
+
   -- a reading that ends here
   module _ (z : End) (q : transfersFrom c room (at .transfers + 2) (lines (drop i second)) (g .feed) ≡ record { feed = g .feed; end = z }) where
     whole-is : record { feed = g .feed; end = z } ≡ whole
@@ -92,10 +83,10 @@ module _ {first second : List ℕ} {c : TransferColumns} {room : Room} {cut : �
 
     told : {y : TransfersTold} → y ≡ pathsToldAt at (endingOf z) → y ≡ transfersTold whole
     unfolding transfersTold pathsToldAt
-    told e = let a : at .stops ≡ length (g .feed .stops) = booked-count (g .held) in e ∙ rw (← whole-is, a, ← g .counted)
+    told e = let a : at .stops ≡ length (g .feed .stops) = booked-count (g .held) in e ∙ rw (← whole-is, a, ← counted)
 
     left-paths : p ≡ withBytes p₀ 0 (flatTransfers (whole .feed .transfers))
-    left-paths = g .rows-held ∙ ap (λ (y : Got). withBytes p₀ 0 (flatTransfers (y .feed .transfers))) whole-is
+    left-paths = g .filling .held ∙ ap (λ (y : Got). withBytes p₀ 0 (flatTransfers (y .feed .transfers))) whole-is
 
     left-stops : Booked first second (pathsLeft room cut whole) s₀ s (whole .feed .stops)
     unfolding pathsLeft
@@ -121,8 +112,8 @@ module _ {first second : List ℕ} {c : TransferColumns} {room : Room} {cut : �
 
   -- a line
   -- its number fits 32 bits
-  pub line-fits : i < length second → at .transfers + 2 < 4_294_967_296
-  line-fits h = omega (arith, g .lines-passed, g .short)
+  pub line-fits : i < length second → at .transfers + 2 ≤ 4_294_967_295
+  line-fits h = number-fits (g .filling) h
 
   module _ {r : TextLine} (k : LineAt second i r) {j : TransferRead} (o : transferRead second j ≡ transferLine c (part i (r .end) second)) where
     module _ (w : j ≡ Wrong) where
@@ -145,15 +136,6 @@ module _ {first second : List ℕ} {c : TransferColumns} {room : Room} {cut : �
       unfolding transferRead
       q = sym o ∙ ap (transferRead second) w
 
-      flat-long : length (flatTransfers (g .feed .transfers)) ≡ 4 * at .transfers
-      flat-long = flat-transfers-length (g .feed .transfers) ∙ ap (λ (n : ℕ). 4 * n) (g .counted)
-
-      long : length p ≡ length p₀
-      long =
-          let few-rows = g .rows-few in
-          let room-rows = g .rows-room in
-          ap length (g .rows-held) ∙ put-length p₀ 0 (flatTransfers (g .feed .transfers)) (omega (arith, flat-long))
-
       pub takeable : i < length second → TransferSpanned second j → PathTakeable first second room at v p s
       takeable h y =
           let o : TransferSpanned second (Values v) = rw w at y in
@@ -161,16 +143,16 @@ module _ {first second : List ℕ} {c : TransferColumns} {room : Room} {cut : �
             book = g .held .book;
             near-text = o .0;
             far-text = o .1;
-            short = g .short;
+            short = g .filling .short;
             turned = g .turned;
-            rows = omega (arith, long, g .rows-room);
+            rows = omega (arith, filling-length (g .filling), g .filling .room);
             row-next = omega (arith, line-fits h);
           }
 
       right : Plans room (transferAt second v) (g .feed) (takeTransfer room (transferAt second v) (g .feed)) (pathIn first second room at v s)
       unfolding transferAt pathIn
       right =
-          rw (g .held .texts, ← g .counted)
+          rw (g .held .texts, ← counted)
           (plan-right room (transferAt second v) (g .feed) (omega (arith, booked-count (g .held), g .held .book .few)))
 
       -- a row that is taken
@@ -180,21 +162,8 @@ module _ {first second : List ℕ} {c : TransferColumns} {room : Room} {cut : �
         row : TransferRow
         row = record { from = from; to = to; kind = v .kind; span = v .span }
 
-        words : List ℕ
-        words = from ∷ to ∷ v .kind ∷ v .span ∷ []
-
         grown : at .stops ≤ seenAfter (seenAfter (at .stops) from) to
         grown = omega (arith, seen-least (at .stops) from, seen-least (seenAfter (at .stops) from) to)
-
-        rows-on : p′ ≡ withBytes p₀ 0 (flatTransfers (g .feed .transfers ++ (row ∷ [])))
-        unfolding row
-        rows-on =
-            let few-rows = g .rows-few in
-            let room-rows = g .rows-room in
-            let place : 4 * at .transfers ≡ 0 + length (flatTransfers (g .feed .transfers)) = omega (arith, flat-long) in
-            rw (flat-transfers-append (g .feed .transfers) (row ∷ []), row-words row)
-            (put-then p₀ 0 (flatTransfers (g .feed .transfers)) (from ∷ to ∷ v .kind ∷ v .span ∷ []) (omega (arith, flat-long)) (g .rows-held)
-            (l .0 ∙ ap (λ (m : ℕ). withBytes p m (from ∷ to ∷ v .kind ∷ v .span ∷ [])) place))
 
         row-on : Pacing first second c room cut whole p₀ s₀ (r .next) (afterPath at (record { from = from; to = to; line = v })) p′ s′
         unfolding afterPath withTransfer transferAt row
@@ -207,15 +176,11 @@ module _ {first second : List ℕ} {c : TransferColumns} {room : Room} {cut : �
               ∙ ap (λ (ls : List (List ℕ)). transfersFrom c room (at .transfers + 2) ls (g .feed)) (sym (k .parted))
               ∙ g .rest));
           held = booked-on (g .held) (rw (g .held .texts) at (l .1)) grown;
-          rows-held = rows-on;
-          counted = omega (arith, length-append (g .feed .transfers) (row ∷ []), g .counted);
-          rows-few = omega (arith, fit .4);
-          rows-room = g .rows-room;
+          filling =
+              rw (flat-transfers-append (g .feed .transfers) (row ∷ []), row-words row)
+              (row-more (g .filling) k (fit .4) (from ∷ to ∷ v .kind ∷ v .span ∷ []) refl (l .0));
           turned = omega (arith, g .turned, grown);
           cut-is = g .cut-is;
-          inside = k .within;
-          lines-passed = omega (arith, k .further, g .lines-passed);
-          short = g .short;
         }
 
       -- by the plan

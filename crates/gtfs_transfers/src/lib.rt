@@ -1,5 +1,7 @@
 // Reads transfers.txt into its table and the book of stops.
 ghost use mathlib.Core.Path.{_≡_};
+ghost use Prim.Native.Nat.{_+_, _≤_};
+ghost use Rattle.feed.specs.declared.Ending.the-variants.{Bad};
 ghost use Rattle.gtfs_transfers.specs.Told.{transfersTold, pathsToldAt, transfersRead, rowsRead};
 ghost use Rattle.gtfs_transfers.specs.Told.{TransfersLeft, PathsLent, PathsBegin};
 use feed::Ending;
@@ -34,7 +36,15 @@ fn told(at: PathsReached, ending: Ending) -> TransfersTold
     }
 }
 
-// Reads the rows, where line 2 begins. Each line before is a row, so the line's number is that of the rows and 2.
+// The line behind so many rows is bad: its number is that of the rows and 2.
+fn told_bad(at: PathsReached) -> TransfersTold
+    requires { ⌜ at .transfers + 2 ≤ 4294967295 ⌝ }
+    ensures { λ r. ⌜ r ≡ pathsToldAt at (Bad (at .transfers + 2)) ⌝ }
+{
+    told(at, Ending::Bad(at.transfers + 2))
+}
+
+// Reads the rows, where line 2 begins.
 fn read_rows(
     first: &[u8],
     second: &[u8],
@@ -61,7 +71,7 @@ fn read_rows(
         let line = csv::line(second, i);
         let values = gtfs_lines::transfer_line(second, i, line.end, c);
         match values {
-            TransferRead::Bad => return told(at, Ending::Bad(at.transfers + 2)),
+            TransferRead::Bad => return told_bad(at),
             TransferRead::Values(v) => {
                 let took = gtfs_paths::take(first, second, paths, stops, room, at, v);
                 match took {

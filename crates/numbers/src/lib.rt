@@ -5,7 +5,7 @@ ghost use Prim.Native.Nat.{_+_, _*_, _≤_, _<_};
 ghost use lib.ListN.{length, getD};
 ghost use Rattle.csv.specs.Part.{part};
 ghost use Rattle.base.specs.Put.{withBytes};
-ghost use Rattle.numbers.specs.Decimal.{decimalFrom, decimal as decimalOf, digits};
+ghost use Rattle.numbers.specs.Decimal.{decimal as decimalOf, digits};
 ghost use Rattle.numbers.specs.Clock.{MIDNIGHT, upTo, eightBytes, clock as clockOf, twoDigits, clockText};
 ghost use Rattle.numbers.specs.Told.{toldNumber};
 

@@ -29,17 +29,17 @@ print-number-requires c κs = search needs
 print-counts-requires : tie.Need-print-counts-requires
 print-counts-requires c κs = search needs
 
-slice-aggregate-print-times : tie.Need-slice-aggregate-print-times
-slice-aggregate-print-times c = search (needs, length-take-le)
+slice-aggregate-print-rows : tie.Need-slice-aggregate-print-rows
+slice-aggregate-print-rows c = search (needs, length-take-le)
 
-print-times-requires : tie.Need-print-times-requires
-print-times-requires c κs = search needs
+print-rows-requires : tie.Need-print-rows-requires
+print-rows-requires c κs = search needs
 
-slice-aggregate-print-transfers : tie.Need-slice-aggregate-print-transfers
-slice-aggregate-print-transfers c = search (needs, length-take-le)
+slice-aggregate-print-rows-2 : tie.Need-slice-aggregate-print-rows-2
+slice-aggregate-print-rows-2 c = search (needs, length-take-le)
 
-print-transfers-requires : tie.Need-print-transfers-requires
-print-transfers-requires c κs = search needs
+print-rows-requires-2 : tie.Need-print-rows-requires-2
+print-rows-requires-2 c κs = search needs
 
 slice-aggregate-write-and-read : tie.Need-slice-aggregate-write-and-read
 slice-aggregate-write-and-read c = search (needs, length-take-le)
@@ -65,10 +65,10 @@ show-spec =
     returns-2
     print-number-requires
     print-counts-requires
-    slice-aggregate-print-times
-    print-times-requires
-    slice-aggregate-print-transfers
-    print-transfers-requires
+    slice-aggregate-print-rows
+    print-rows-requires
+    slice-aggregate-print-rows-2
+    print-rows-requires-2
     slice-aggregate-write-and-read
     slice-aggregate-write-and-read-2
     write-and-read-requires

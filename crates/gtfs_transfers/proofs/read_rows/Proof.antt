@@ -29,11 +29,8 @@ transfer-line-requires c κs = search needs
 enum-told : tie.Need-enum-told Inv-loop μ-loop
 enum-told c = search needs
 
-add-t17 : tie.Need-add-t17 Inv-loop μ-loop
-add-t17 c = record { fits = search (needs, line-fits) }
-
-told-requires : tie.Need-told-requires Inv-loop μ-loop
-told-requires c κs = search needs
+told-bad-requires : tie.Need-told-bad-requires Inv-loop μ-loop
+told-bad-requires c κs = search (needs, line-fits)
 
 same-length : tie.Need-same-length Inv-loop μ-loop
 same-length c = search needs
@@ -53,8 +50,8 @@ take-requires c κs = search (needs, takeable)
 enum-told-2 : tie.Need-enum-told-2 Inv-loop μ-loop
 enum-told-2 c = search needs
 
-told-requires-2 : tie.Need-told-requires-2 Inv-loop μ-loop
-told-requires-2 c κs = search needs
+told-requires : tie.Need-told-requires Inv-loop μ-loop
+told-requires c κs = search needs
 
 same-length-3 : tie.Need-same-length-3 Inv-loop μ-loop
 same-length-3 c = search needs
@@ -74,8 +71,8 @@ loop-less c = search needs
 loop-again : tie.Need-loop-again Inv-loop μ-loop
 loop-again c = (search (needs, pacing-on), search needs, search needs)
 
-told-requires-3 : tie.Need-told-requires-3 Inv-loop μ-loop
-told-requires-3 c κs = search needs
+told-requires-2 : tie.Need-told-requires-2 Inv-loop μ-loop
+told-requires-2 c κs = search needs
 
 same-length-5 : tie.Need-same-length-5 Inv-loop μ-loop
 same-length-5 c = search needs
@@ -96,22 +93,21 @@ read-rows-spec =
     line-requires
     transfer-line-requires
     enum-told
-    add-t17
-    told-requires
+    told-bad-requires
     same-length
     same-length-2
     returns
     enum-known-values
     take-requires
     enum-told-2
-    told-requires-2
+    told-requires
     same-length-3
     same-length-4
     returns-2
     enum-known-took
     loop-less
     loop-again
-    told-requires-3
+    told-requires-2
     same-length-5
     same-length-6
     returns-3)

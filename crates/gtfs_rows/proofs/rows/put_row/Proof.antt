@@ -1,11 +1,11 @@
--- `gtfs_rows::times::put_row` meets its contract: four stores in a row.
+-- `gtfs_rows::rows::put_row` meets its contract: four stores in a row.
 -- Assumes nothing.
 use borrow.Author.Needs.{needs}
 use native.Mathlib.Omega.{arith}
 use lib.ListN.{length-set}
 use Rattle.base.proofs.Put.{put-four}
-use Rattle.gtfs_rows.proofs.times.put_row.Statement.{statement}
-use Rattle.gtfs_rows.proofs.times.put_row.Tie as tie
+use Rattle.gtfs_rows.proofs.rows.put_row.Statement.{statement}
+use Rattle.gtfs_rows.proofs.rows.put_row.Tie as tie
 
 mul-at : tie.Need-mul-at
 mul-at c = search needs
