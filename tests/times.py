@@ -74,8 +74,9 @@ def written(log):
     more = "\n".join(f"| `{n}` | {count} | {why} |" for n, (count, why) in MORE.items())
     page = f"""# Check times
 
-The seconds that `rt ci` gave for each crate on {os.cpu_count()} cores ({machine}), two crates side by side, on a machine which takes {slower} times as long as that of the
-rule, by the crates that the page before had too. A file of must-fail edits costs its crate's whole check again: the {sum(c[0] for c in counts.values())} edits, in {sum(c[1] for c in counts.values())} files, take {extra // 60} minutes of one core, the {len(counts)} crates {seconds // 60}. `tests/times.py LOG` makes this page from what `./test` said.
+The seconds that `rt ci` gave for each crate on {os.cpu_count()} cores ({machine}), two crates side by side, on a machine which takes {slower:.2f} times as long as that of the
+rule, by the crates that the page before had too. A file of must-fail edits costs its crate's whole check again: the {sum(c[0] for c in counts.values())} edits, in {sum(c[1] for c in counts.values())} files,
+take {extra // 60} minutes of one core, the {len(counts)} crates {seconds // 60}. `tests/times.py LOG` makes this page from what `./test` said.
 [README.md](../README.md) leads to the other pages; [BENCHMARKS.md](BENCHMARKS.md) has the times of the search itself.
 
 | crate | seconds | must-fail edits | files of them | seconds of them all |
@@ -101,10 +102,10 @@ proved once, by `rt ci`; what is then compared with the Rust, plain C and bad in
    files directly" (02) added more, and is the exception: it brought a subject of its own, {len(FEED)} crates with their edits that share nothing with the search,
    and nothing that was there takes longer. Before it the number was 33.
 
-Seconds are not the same on every machine: one Arm (Neoverse-N1) took 1.58 times as long as the x86-64 of the rule, another (Neoverse-V1) about as long, and
-other work on a machine makes it more. So `tests/times.py check`, which the gate runs
-first, holds the rule over this page and the tree's files, and not over its own clock: who adds a crate makes the page anew from a quiet run, and then it
-stands by these numbers. After `rt ci` the gate says where its own run went beyond them, measured by the crates that the page knows, and goes on.
+Seconds are not the same on every machine: one Arm (Neoverse-N1) took 1.58 times as long as the x86-64 of the rule, another (Neoverse-V1) as long, and
+other work on a machine makes it more. So `tests/times.py check`, which the gate runs first, holds the rule over this page and the tree's files, and not over
+its own clock: who adds a crate makes the page anew from a quiet run, and then it stands by these numbers. After `rt ci` the gate says where its own run went
+beyond them, measured by the crates that the page knows, and goes on.
 """
     with open(PAGE, "w", encoding="utf-8") as f:
         f.write(page)
