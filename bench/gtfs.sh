@@ -6,7 +6,7 @@ set -eu
 root=$(cd "$(dirname "$0")/.." && pwd)
 out=$root/target/bench lib=${GTFS_LIB:+$(realpath "$GTFS_LIB")}
 mkdir -p "$out"
-[ -n "$lib" ] || { lib=$root/target/native/gtfs_c.o && "$root/compare/native.sh" gtfs_c "$lib" 2>/dev/null; }
+[ -n "$lib" ] || { lib=$root/target/native/gtfs_c.o && "$root/compare/native.sh" gtfs_c "$lib"; }
 cc -O3 -o "$out/gtfs" "$root/bench/gtfs.c" "$root/plain/gtfs.c" "$lib"
 for feed in large slow; do python3 "$root/compare/gtfs.py" $feed "$out/feed-$feed"; done
 printf '<!-- feed %s -->\n\n' "$(uname -m)"

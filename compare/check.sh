@@ -3,6 +3,6 @@
 set -eu
 cd "$(dirname "$0")"
 mkdir -p ../target/compare
-./native.sh kiosk_c ../target/native/kiosk_c.o 2>/dev/null
+./native.sh kiosk_c ../target/native/kiosk_c.o
 cc -O3 -o ../target/compare/check check.c city.c dice.c network.c ../plain/check.c ../target/native/kiosk_c.o
 exec ../target/compare/check

@@ -14,7 +14,7 @@ mkdir -p "$corpus"
 echo 'int LLVMFuzzerTestOneInput(void) { return 0; }' > "$out/none.c"
 clang -fsanitize=address,fuzzer -o "$out/none" "$out/none.c" 2>/dev/null || {
     echo "fuzz.sh: no clang with libFuzzer and the address sanitizer (Debian's clang and libclang-rt-14-dev)"; exit 2; }
-SANITIZE=1 ./native.sh kiosk_c "$out/kiosk_c.o" 2>/dev/null
+SANITIZE=1 ./native.sh kiosk_c "$out/kiosk_c.o"
 rm -rf "$out/parts"
 mkdir -p "$out/parts"
 # without counters of their own: the proved code's are counted

@@ -15,7 +15,7 @@ out=$(realpath -m ../target/compare)
 mkdir -p "$out"
 # library OUT.o: ours, unless another was named
 library() {
-    [ -n "$lib" ] || { ./native.sh gtfs_c "$1" 2>/dev/null && lib=$1; }
+    [ -n "$lib" ] || { ./native.sh gtfs_c "$1" && lib=$1; }
 }
 
 case $what in
@@ -37,7 +37,7 @@ fuzz)
     echo 'int LLVMFuzzerTestOneInput(void) { return 0; }' > "$out/none.c"
     clang -fsanitize=address,fuzzer -o "$out/none" "$out/none.c" 2>/dev/null || {
         echo "gtfs.sh: no clang with libFuzzer and the address sanitizer (Debian's clang and libclang-rt-14-dev)"; exit 2; }
-    [ -n "$lib" ] || { SANITIZE=1 ./native.sh gtfs_c "$out/gtfs_c.o" 2>/dev/null && lib=$out/gtfs_c.o; }
+    [ -n "$lib" ] || { SANITIZE=1 ./native.sh gtfs_c "$out/gtfs_c.o" && lib=$out/gtfs_c.o; }
     for f in gtfs_fuzz fuzzing gtfs_try feeds dice ../plain/gtfs; do       # without counters of their own: the proved code's are counted
         clang -O1 -g -fsanitize=address -c -o "$out/gtfs-parts/$(basename $f).o" $f.c
     done

@@ -18,7 +18,7 @@ else
     echo "the Rust's source is not at hand (BLAISE): it is left out"
     rust=0
 fi
-[ "${OURS:-1}" = 0 ] || "$root/compare/native.sh" kiosk_c "$root/target/native/kiosk_c.o" 2>/dev/null
+[ "${OURS:-1}" = 0 ] || "$root/compare/native.sh" kiosk_c "$root/target/native/kiosk_c.o"
 
 has_rayon() {
     [ $rust = 1 ] && ls -d "$crates"/rayon* > /dev/null 2>&1 && return
