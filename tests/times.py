@@ -45,16 +45,16 @@ def said_by(log):
 def on_page(page):
     """What the page has: the seconds of each crate and of its edits, the pace of its machine, the minutes that the gate may take."""
     rows = re.findall(r"^\| (\w+) \| (\d*) \| \d+ \| \d+ \| (\d*) \|$", page, re.M)
-    pace = re.search(r"which takes ([\d.]+) times as long as that of the rule", page)
+    pace = re.search(r"which takes ([\d.]+) times as long as that of the\s+rule", page)
     may = re.search(r"may take \*\*(\d+)\*\* minutes of one core", page)
-    return {n: int(s or 0) for n, s, e in rows}, {n: int(e or 0) for n, s, e in rows}, float(pace.group(1)) if pace else 1, may and int(may.group(1))
+    return {n: int(s or 0) for n, s, e in rows}, {n: int(e or 0) for n, s, e in rows}, pace and float(pace.group(1)), may and int(may.group(1))
 
 
 def pace_of(proved, page):
     """How much longer a run takes than one on the machine of the rule: the median over the crates that the page knows."""
     was, _, pace, _ = on_page(page)
     known = [proved[n] / was[n] for n in proved if was.get(n, 0) >= 5]
-    return (statistics.median(known) if known else 1) * pace
+    return (statistics.median(known) if known else 1) * (pace or 1)
 
 
 def written(log):
@@ -115,6 +115,9 @@ beyond them, measured by the crates that the page knows, and goes on.
 def check():
     wrong = []
     proved, edits, slower, may = on_page(open(PAGE, encoding="utf-8").read())
+    if slower is None:
+        wrong.append(f"{PAGE}: it does not say how long its machine takes")
+        slower = 1
     for name in crates():
         files = edits_of(name)[1]
         most = MORE.get(name, (FILES, ""))[0]
