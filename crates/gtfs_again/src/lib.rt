@@ -1,24 +1,41 @@
 // Rows written to two files and read again: whether they are the same.
+ghost use mathlib.Core.Path.{_≡_};
+ghost use Rattle.arguments.specs.Word.{beginsWith};
+ghost use Rattle.gtfs_again.specs.Again.{sameCounts, againAs};
 use gtfs_read::Told;
 use gtfs_write::Written;
 
-// Whether the words stand at the other's beginning.
-fn begins(words: &[u32], other: &[u32]) -> bool {
-    if other.len() < words.len() {
+// What was read again, held to what was written.
+enum Again {
+    Same,
+    NotRead,
+    OtherCounts,
+    OtherTimes,
+    OtherTransfers,
+}
+
+// Whether the words begin with those of `rows`.
+fn begins_with(words: &[u32], rows: &[u32]) -> bool
+    ensures { λ r. ⌜ r ≡ beginsWith (now (words .entry)) (now (rows .entry)) ⌝ }
+{
+    if words.len() < rows.len() {
         return false;
     }
     let mut i = 0;
-    while i < words.len() {
-        if words[i] != other[i] {
+    while i < rows.len() {
+        if words[i] == rows[i] {
+            i += 1;
+        } else {
             return false;
         }
-        i += 1;
     }
     true
 }
 
 // Whether so much was taken both times.
-fn same_counts(t: Told, u: Told) -> bool {
+fn same_counts(t: Told, u: Told) -> bool
+    ensures { λ r. ⌜ r ≡ sameCounts t u ⌝ }
+{
     if t.stops != u.stops {
         return false;
     }
@@ -32,28 +49,36 @@ fn same_counts(t: Told, u: Told) -> bool {
 }
 
 // The rows and what was told of them, first as they were written, then as they were read again.
-fn compare(times: &[u32], paths: &[u32], t: Told, again: &[u32], again_paths: &[u32], u: Told) {
+fn held(times: &[u32], paths: &[u32], t: Told, again: &[u32], again_paths: &[u32], u: Told) -> Again
+    ensures { λ r. ⌜ r ≡ againAs (now (times .entry)) (now (paths .entry)) t (now (again .entry)) (now («again_paths» .entry)) u ⌝ }
+{
     if 0 < u.number {
-        print::text(b"not read again: ");
-        gtfs_telling::print_number(u);
-        return;
+        return Again::NotRead;
     }
-    let counts = same_counts(t, u);
-    if !counts {
-        print::text(b"other counts\n");
-        return;
+    if same_counts(t, u) {
+        if begins_with(again, times) {
+            if begins_with(again_paths, paths) {
+                return Again::Same;
+            }
+            return Again::OtherTransfers;
+        }
+        return Again::OtherTimes;
     }
-    let same_times = begins(times, again);
-    if !same_times {
-        print::text(b"other times\n");
-        return;
+    Again::OtherCounts
+}
+
+// Says what it is.
+fn print_again(a: Again, u: Told) {
+    match a {
+        Again::Same => print::text(b"same\n"),
+        Again::OtherCounts => print::text(b"other counts\n"),
+        Again::OtherTimes => print::text(b"other times\n"),
+        Again::OtherTransfers => print::text(b"other transfers\n"),
+        Again::NotRead => {
+            print::text(b"not read again: ");
+            gtfs_telling::print_number(u);
+        }
     }
-    let same_paths = begins(paths, again_paths);
-    if !same_paths {
-        print::text(b"other transfers\n");
-        return;
-    }
-    print::text(b"same\n");
 }
 
 // Reads the files that were written.
@@ -70,7 +95,8 @@ fn read_again(stop_times: &[u8], transfers: &[u8], times: &[u32], paths: &[u32],
         &mut stops,
         &mut trips,
     );
-    compare(times, paths, t, &again, &again_paths, u);
+    let a = held(times, paths, t, &again, &again_paths, u);
+    print_again(a, u);
 }
 
 // Writes the transfers, where the times are written, and reads both files.
