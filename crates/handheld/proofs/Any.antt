@@ -15,11 +15,11 @@ use Rattle.model.specs.Lists.{upto}
 use Rattle.handheld.specs.Any.{any, Sought}
 
 module _ {A : Type 0} (f : A → Bool) where
-  any-now : (a : A) (l : List A) → f a ≡ true → any f (a ∷ l) ≡ true
+  pub any-now : (a : A) (l : List A) → f a ≡ true → any f (a ∷ l) ≡ true
   unfolding any
   any-now a l e = rw (e, any)
 
-  any-on : (a : A) (l : List A) → f a ≡ false → any f (a ∷ l) ≡ any f l
+  pub any-on : (a : A) (l : List A) → f a ≡ false → any f (a ∷ l) ≡ any f l
   unfolding any
   any-on a l e = rw (e, any)
 

@@ -1,0 +1,3 @@
+-- The laws that the functions of `judge_paths` cite.
+pub mod Rows
+pub mod Listed

@@ -1,0 +1,3 @@
+-- The definitions that the contracts of `judge_paths` cite.
+pub mod Paths
+pub mod Areas
