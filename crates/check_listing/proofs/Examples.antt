@@ -13,14 +13,14 @@ use Rattle.repository.specs.Listed.{station, stations, child, ofStation, childr
 use Rattle.repository.specs.Listed.{routeStops, routeTrips, timeEach, tripTimes, call, later, ascending, calls, called}
 use Rattle.repository.specs.Listed.{calledAlong, callsHold, callsRise, callsAll, stopRoutes, running, passes, servedMark}
 use Rattle.repository.specs.Listed.{served, transfer, transfers, walkIn, walks, areaOnce, areasOnce, areasListed}
-use Rattle.repository.specs.Listed.{framed, wellListed}
+use Rattle.repository.specs.Listed.{standing, standings, framed, wellListed}
 
 -- Stops 0 to 5, of which 5 is the station of 0 and 1. Route 0: stops 0, 1, 2, two trips. Route 1: stops 3, 4, one trip.
 -- Route 2: stops 2, 3, 2, no trip. A transfer from 2 to 3, a walk from 3 to 2. Area 0: stops 5 and 2. Area 1: none.
 -- The header, then a line for each section.
 unfoldable image : List ℕ
 image =
-    20 ∷ 26 ∷ 32 ∷ 39 ∷ 41 ∷ 48 ∷ 69 ∷ 75 ∷ 82 ∷ 86 ∷ 93 ∷ 95 ∷ 99 ∷ 107 ∷ 111 ∷ 114 ∷ 118 ∷ 134 ∷ 137 ∷ 139 ∷
+    21 ∷ 27 ∷ 33 ∷ 40 ∷ 42 ∷ 49 ∷ 70 ∷ 76 ∷ 83 ∷ 87 ∷ 94 ∷ 96 ∷ 100 ∷ 108 ∷ 112 ∷ 115 ∷ 119 ∷ 135 ∷ 138 ∷ 140 ∷ 146 ∷
     0 ∷ 1 ∷ 2 ∷ 3 ∷ 4 ∷ 5 ∷
     5 ∷ 5 ∷ 4294967295 ∷ 4294967295 ∷ 4294967295 ∷ 4294967295 ∷
     0 ∷ 0 ∷ 0 ∷ 0 ∷ 0 ∷ 0 ∷ 2 ∷
@@ -39,7 +39,8 @@ image =
     0 ∷ 3 ∷ 6 ∷ 8 ∷
     100 ∷ 100 ∷ 200 ∷ 210 ∷ 300 ∷ 300 ∷ 400 ∷ 400 ∷ 500 ∷ 510 ∷ 600 ∷ 600 ∷ 350 ∷ 350 ∷ 450 ∷ 450 ∷
     0 ∷ 2 ∷ 2 ∷
-    5 ∷ 2 ∷ []
+    5 ∷ 2 ∷
+    0 ∷ 0 ∷ 0 ∷ 1 ∷ 1 ∷ 2 ∷ []
 
 image-laid : laid image ≡ true
 unfolding image laid headed wellSized limited wellStarted startsSection positioned every all size sec count
@@ -56,42 +57,48 @@ changed i v = wellListed (set image i v)
 unfoldable broken : List Bool
 broken =
     -- a stop out of its place
-    changed 21 2 ∷
+    changed 22 2 ∷
     -- a station that is no stop
-    changed 29 6 ∷
+    changed 30 6 ∷
     -- a child listed twice
-    changed 40 0 ∷
+    changed 41 0 ∷
     -- a child that names no station
-    changed 27 4294967295 ∷
+    changed 28 4294967295 ∷
     -- a stop that names a station and is no child of it
-    changed 28 5 ∷
+    changed 29 5 ∷
     -- a route with a stop out of range
-    changed 99 6 ∷
+    changed 100 6 ∷
     -- a trip in two routes
-    changed 113 1 ∷
+    changed 114 1 ∷
     -- a trip with a time too few
-    changed 116 5 ∷
+    changed 117 5 ∷
+    -- a trip that stands in no route
+    changed 140 3 ∷
+    -- a trip that stands in another route
+    changed 142 1 ∷
+    -- a trip that stands in another's place
+    changed 141 1 ∷
     -- a call's first position is another stop's
-    changed 49 1 ∷
+    changed 50 1 ∷
     -- a call's last position is before the last
-    changed 59 0 ∷
+    changed 60 0 ∷
     -- a call for another route
-    changed 48 1 ∷
+    changed 49 1 ∷
     -- a served mark left unset
-    changed 69 0 ∷
+    changed 70 0 ∷
     -- a served mark where no trip passes
-    changed 74 1 ∷
+    changed 75 1 ∷
     -- a transfer listed under another stop
-    changed 82 1 ∷
+    changed 83 1 ∷
     -- a transfer to no stop
-    changed 83 6 ∷
+    changed 84 6 ∷
     -- a walk to no stop
-    changed 93 6 ∷
+    changed 94 6 ∷
     -- an area that names a stop twice
-    changed 138 5 ∷
+    changed 139 5 ∷
     -- an area that names no stop
-    changed 137 6 ∷ []
+    changed 138 6 ∷ []
 
-image-listed : (kept ≡ true) × (broken ≡ replicate 18 false)
-unfolding kept broken changed image every all size sec count fails some among unseen distinct indexed inRange under inPlace stopList station stations child ofStation childrenName childrenAll children routeStops routeTrips timeEach tripTimes call later ascending calls called calledAlong callsHold callsRise callsAll stopRoutes running passes servedMark served transfer transfers walkIn walks areaOnce areasOnce areasListed framed wellListed
+image-listed : (kept ≡ true) × (broken ≡ replicate 21 false)
+unfolding kept broken changed image every all size sec count fails some among unseen distinct indexed inRange under inPlace stopList station stations child ofStation childrenName childrenAll children routeStops routeTrips timeEach tripTimes standing standings call later ascending calls called calledAlong callsHold callsRise callsAll stopRoutes running passes servedMark served transfer transfers walkIn walks areaOnce areasOnce areasListed framed wellListed
 image-listed = (refl, refl)

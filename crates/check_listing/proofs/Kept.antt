@@ -19,11 +19,12 @@ use Rattle.repository.specs.Listed.{among, inPlace, stopList, station, stations
 use Rattle.repository.specs.Listed.{childrenAll, children, routeStops, routeTrips, timeEach, tripTimes, call, later}
 use Rattle.repository.specs.Listed.{ascending, called, calledAlong, callsHold, callsRise, callsAll, stopRoutes}
 use Rattle.repository.specs.Listed.{servedMark, served, transfer, transfers, walkIn, walks, areaOnce, areasOnce}
-use Rattle.repository.specs.Listed.{areasListed, framed, wellListed}
+use Rattle.repository.specs.Listed.{areasListed, standing, standings, framed, wellListed}
 use Rattle.repository.specs.Accepted.{Listed}
 use Rattle.repository.proofs.All.{all-so}
 use Rattle.check_calls.proofs.Ranges.{some-so}
-use Rattle.check_listing.proofs.Parts.{six-so}
+use Rattle.check_listing.proofs.Parts.{six-so, framed-so}
+use Rattle.check_listing.proofs.Stood.{standing-so}
 use Rattle.check_calls.proofs.Facts.{each-so, under-so, distinct-so, index-so, or-so}
 use Rattle.check_calls.proofs.CallRows.{call-so, called-so, mark-so}
 
@@ -75,6 +76,12 @@ module _ {w : List ℕ} (l : Laid w) (h : Listed w) where
   times : tripTimes w ≡ true
   unfolding tripTimes timeEach
   times = under-so w ROUTE-TRIP-STARTS (routes w) (timeEach w) (λ r i g u. eq-eqb _ _ (h .trip-long r i g u))
+
+  standing-rows : standings w ≡ true
+  unfolding standings
+  standing-rows =
+      each-so (standing w) (trips w)
+      (λ v g. standing-so w v (record { route = h .standing-route v g; under = h .standing-under v g; trip = h .standing-trip v g }))
 
   hold : callsHold w ≡ true
   unfolding callsHold
@@ -131,12 +138,12 @@ module _ {w : List ℕ} (l : Laid w) (h : Listed w) where
       (λ i j from k to. h .area-once a i j g (record { from = from; to = omega arith }) k to)))
 
   pub listed-so : wellListed w ≡ true
-  unfolding wellListed framed
+  unfolding wellListed
   listed-so =
       six-so (framed w) (stopRoutes w) (served w) (transfers w) (walks w) (areasListed w)
       (record {
         first =
-            six-so (stopList w) (stations w) (children w) (routeStops w) (routeTrips w) (tripTimes w)
+            framed-so w
             (record {
               first = places;
               second = parents;
@@ -144,7 +151,8 @@ module _ {w : List ℕ} (l : Laid w) (h : Listed w) where
               fourth = stops-in;
               fifth = trips-whole;
               sixth = times;
-            });
+            })
+            standing-rows;
         second = calls-whole;
         third = marks;
         fourth = transfers-whole;

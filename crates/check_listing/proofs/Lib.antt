@@ -2,6 +2,7 @@
 pub mod Fits
 pub mod Marking
 pub mod Rows
+pub mod Stood
 pub mod Parts
 pub mod Shown
 pub mod Kept

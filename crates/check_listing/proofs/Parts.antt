@@ -8,7 +8,7 @@ use Rattle.base.proofs.Choice.{and-left, and-right}
 use Rattle.repository.specs.Sections.{size, sec, stops, trips, CHILDREN, ROUTE-STOPS, ROUTE-TRIPS, AREA-STARTS}
 use Rattle.repository.specs.Sections.{AREA-STOPS}
 use Rattle.repository.specs.Listed.{inRange, distinct, childrenName, childrenAll, children, routeStops, routeTrips}
-use Rattle.repository.specs.Listed.{tripTimes, stopList, stations, framed, callsHold, callsRise, callsAll}
+use Rattle.repository.specs.Listed.{tripTimes, standings, stopList, stations, framed, callsHold, callsRise, callsAll}
 use Rattle.repository.specs.Listed.{stopRoutes, served, transfers, walks, areaOnce, areasOnce, areasListed, wellListed}
 
 module _ (w : List ℕ) {a : Bool} (ea : a ≡ childrenName w) where
@@ -83,11 +83,18 @@ module _ (w : List ℕ) {a : Bool} (ea : a ≡ stopList w) where
               rw (← ea, not-false a ta, ← eb, not-false b tb, ← ec, not-false c tc)
               (rw (← ed, not-false d td, ← ee, not-true e t))
 
-          pub framed-whole : {f : Bool} → not e ≡ false → f ≡ tripTimes w → f ≡ framed w
-          unfolding framed
-          framed-whole te ef =
-              rw (← ea, not-false a ta, ← eb, not-false b tb, ← ec, not-false c tc)
-              (rw (← ed, not-false d td, ← ee, not-false e te) ef)
+          module _ (te : not e ≡ false) {f : Bool} (ef : f ≡ tripTimes w) where
+            pub no-trip-time : not f ≡ true → false ≡ framed w
+            unfolding framed
+            no-trip-time t =
+                rw (← ea, not-false a ta, ← eb, not-false b tb, ← ec, not-false c tc)
+                (rw (← ed, not-false d td, ← ee, not-false e te, ← ef, not-true f t))
+
+            pub framed-whole : {g : Bool} → not f ≡ false → g ≡ standings w → g ≡ framed w
+            unfolding framed
+            framed-whole tf eg =
+                rw (← ea, not-false a ta, ← eb, not-false b tb, ← ec, not-false c tc)
+                (rw (← ed, not-false d td, ← ee, not-false e te, ← ef, not-false f tf) eg)
 
 module _ (w : List ℕ) {a : Bool} (ea : a ≡ framed w) where
   pub no-frame : not a ≡ true → false ≡ wellListed w
@@ -150,10 +157,24 @@ module _ (a b c d e f : Bool) where
   pub six-so : Six a b c d e f → a && b && c && d && e && f ≡ true
   six-so h = rw (h .first, h .second, h .third, h .fourth, h .fifth) (h .sixth)
 
-pub framed-parts : (w : List ℕ) → framed w ≡ true
-    → Six (stopList w) (stations w) (children w) (routeStops w) (routeTrips w) (tripTimes w)
-unfolding framed
-framed-parts w = six-shown (stopList w) (stations w) (children w) (routeStops w) (routeTrips w) (tripTimes w)
+-- the rules for stops, stations and routes: six, and that of the standings
+module _ (w : List ℕ) where
+  abbrev six : Bool
+  six = stopList w && stations w && children w && routeStops w && routeTrips w && tripTimes w
+
+  pub framed-parts : framed w ≡ true → Six (stopList w) (stations w) (children w) (routeStops w) (routeTrips w) (tripTimes w)
+  unfolding framed
+  framed-parts e =
+      six-shown (stopList w) (stations w) (children w) (routeStops w) (routeTrips w) (tripTimes w) (and-left six (standings w) e)
+
+  pub framed-standings : framed w ≡ true → standings w ≡ true
+  unfolding framed
+  framed-standings e = and-right six (standings w) e
+
+  pub framed-so : Six (stopList w) (stations w) (children w) (routeStops w) (routeTrips w) (tripTimes w) → standings w ≡ true
+      → framed w ≡ true
+  unfolding framed
+  framed-so h t = rw (six-so (stopList w) (stations w) (children w) (routeStops w) (routeTrips w) (tripTimes w) h) t
 
 -- ---- what a later part asks of an earlier one
 pub trips-passed : (w : List ℕ) {a : Bool} → a ≡ routeTrips w → not a ≡ false → routeTrips w ≡ true

@@ -20,11 +20,12 @@ use Rattle.repository.specs.Listed.{among, distinct, inRange, inPlace, stopList
 use Rattle.repository.specs.Listed.{ofStation, childrenName, childrenAll, children, routeStops, routeTrips}
 use Rattle.repository.specs.Listed.{timeEach, tripTimes, call, later, ascending, called, calledAlong, callsHold}
 use Rattle.repository.specs.Listed.{callsRise, callsAll, stopRoutes, servedMark, served, transfer, transfers, walkIn}
-use Rattle.repository.specs.Listed.{walks, areaOnce, areasOnce, areasListed, framed, wellListed}
+use Rattle.repository.specs.Listed.{walks, areaOnce, areasOnce, areasListed, standing, standings, framed, wellListed}
 use Rattle.repository.specs.Accepted.{Under, Called, Listed}
 use Rattle.check_calls.proofs.Ranges.{some-shown}
 use Rattle.check_listing.proofs.Rows.{child-shown}
-use Rattle.check_listing.proofs.Parts.{Six, six-shown, framed-parts}
+use Rattle.check_listing.proofs.Parts.{Six, six-shown, framed-parts, framed-standings}
+use Rattle.check_listing.proofs.Stood.{Stood, standing-shown}
 use Rattle.check_calls.proofs.Facts.{index-shown, each-shown, under-shown, distinct-shown, or-shown}
 use Rattle.check_calls.proofs.CallRows.{Call, call-shown, called-shown, mark-set, mark-unset}
 
@@ -90,6 +91,10 @@ module _ {w : List ℕ} (l : Laid w) (passed : wellListed w ≡ true) where
   unfolding tripTimes timeEach
   times r i h u = eqb-true _ _ (under-shown w ROUTE-TRIP-STARTS (routes w) (timeEach w) (frame .sixth) r i h u)
 
+  standing-row : (v : ℕ) → v < trips w → Stood w v
+  unfolding standings
+  standing-row v h = standing-shown w v (each-shown (standing w) (trips w) (framed-standings w (whole .first)) v h)
+
   -- calls
   hold-and-rise : callsHold w && callsRise w ≡ true
   unfolding stopRoutes
@@ -153,6 +158,9 @@ module _ {w : List ℕ} (l : Laid w) (passed : wellListed w ≡ true) where
     trip-in = index-shown w ROUTE-TRIPS (trips w) trips-in;
     trip-once = λ i j. distinct-shown w ROUTE-TRIPS 0 (size w ROUTE-TRIPS) trips-apart i j (omega arith);
     trip-long = times;
+    standing-route = λ v h. standing-row v h .route;
+    standing-under = λ v h. standing-row v h .under;
+    standing-trip = λ v h. standing-row v h .trip;
     call-route = λ s j h u. call-row s j h u .route;
     call-first-in = λ s j h u. call-row s j h u .first-in;
     call-last-in = λ s j h u. call-row s j h u .last-in;

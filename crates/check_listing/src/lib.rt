@@ -9,6 +9,7 @@ mod once;
 mod paths;
 mod range;
 mod routes;
+mod standing;
 mod stops;
 
 // Whether stops, stations and routes keep their rules.
@@ -31,7 +32,10 @@ fn framed_ok(tables: &[u32]) -> bool
     if !routes::route_trips_ok(tables) {
         return false;
     }
-    routes::trip_times_ok(tables)
+    if !routes::trip_times_ok(tables) {
+        return false;
+    }
+    standing::standings_ok(tables)
 }
 
 // Whether laid tables have no number 2.

@@ -1,5 +1,5 @@
 -- Laid tables pass the tests for number 1.
-use Prim.Native.Nat.{ℕ, _+_, _%_}
+use Prim.Native.Nat.{ℕ, _+_, _*_, _%_}
 use mathlib.Core.Path.{_≡_}
 use mathlib.Core.Bool.{true}
 use mathlib.Core.List.{List}
@@ -11,8 +11,8 @@ use Rattle.model.specs.Limits.{MOST-TRANSFERS, MOST-WALKS, MOST-AREAS, MOST-ARE
 use Rattle.repository.specs.Sections.{start, size, sec, stops, routes, trips, areas, rows, STOP-LIST, STATIONS}
 use Rattle.repository.specs.Sections.{CHILD-STARTS, CHILDREN, CALL-STARTS, CALLS, SERVED, TRANSFER-STARTS, TRANSFERS}
 use Rattle.repository.specs.Sections.{WALK-STARTS, WALKS, ROUTE-STOP-STARTS, ROUTE-STOPS, ROUTE-TRIP-STARTS}
-use Rattle.repository.specs.Sections.{ROUTE-TRIPS, TIME-STARTS, TIMES, AREA-STARTS, AREA-STOPS, SECTIONS, HEADER}
-use Rattle.repository.specs.Sections.{CALL-WORDS, TRANSFER-WORDS, WALK-WORDS, TIME-WORDS}
+use Rattle.repository.specs.Sections.{ROUTE-TRIPS, TIME-STARTS, TIMES, AREA-STARTS, AREA-STOPS, STANDING, SECTIONS, HEADER}
+use Rattle.repository.specs.Sections.{CALL-WORDS, TRANSFER-WORDS, WALK-WORDS, TIME-WORDS, STANDING-WORDS}
 use Rattle.repository.specs.NetOf.{count}
 use Rattle.repository.specs.Laid.{headed, wellSized, limited, startsSection, wellStarted, positioned, laid, Starts, Laid}
 use Rattle.check_shape.specs.Shape.{routeFits}
@@ -58,6 +58,7 @@ module _ {w : List ℕ} (h : Laid w) where
         eq-eqb (size w TRANSFERS % TRANSFER-WORDS) 0 (h .transfers),
         eq-eqb (size w WALKS % WALK-WORDS) 0 (h .walks),
         eq-eqb (size w TIMES % TIME-WORDS) 0 (h .times),
+        eq-eqb (size w STANDING) (trips w * STANDING-WORDS) (h .standing-size),
       )
 
   limited-so : limited w ≡ true

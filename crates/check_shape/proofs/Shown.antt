@@ -1,5 +1,5 @@
 -- What the tests for number 1 show. `Passed` has the other way round: `laid w ≡ true` and `Laid w` say the same.
-use Prim.Native.Nat.{ℕ, _+_, _%_, _≤_, _<_}
+use Prim.Native.Nat.{ℕ, _+_, _*_, _%_, _≤_, _<_}
 use mathlib.Core.Path.{_≡_, sym, _∙_}
 use mathlib.Core.Bool.{Bool, true}
 use mathlib.Core.List.{List, [], _∷_}
@@ -14,8 +14,8 @@ use Rattle.model.specs.Limits.{MOST-TRANSFERS, MOST-WALKS, MOST-AREAS, MOST-ARE
 use Rattle.repository.specs.Sections.{start, size, sec, stops, routes, trips, areas, rows, STOP-LIST, STATIONS}
 use Rattle.repository.specs.Sections.{CHILD-STARTS, CHILDREN, CALL-STARTS, CALLS, SERVED, TRANSFER-STARTS, TRANSFERS}
 use Rattle.repository.specs.Sections.{WALK-STARTS, WALKS, ROUTE-STOP-STARTS, ROUTE-STOPS, ROUTE-TRIP-STARTS}
-use Rattle.repository.specs.Sections.{ROUTE-TRIPS, TIME-STARTS, TIMES, AREA-STARTS, AREA-STOPS, SECTIONS, HEADER}
-use Rattle.repository.specs.Sections.{CALL-WORDS, TRANSFER-WORDS, WALK-WORDS, TIME-WORDS}
+use Rattle.repository.specs.Sections.{ROUTE-TRIPS, TIME-STARTS, TIMES, AREA-STARTS, AREA-STOPS, STANDING, SECTIONS, HEADER}
+use Rattle.repository.specs.Sections.{CALL-WORDS, TRANSFER-WORDS, WALK-WORDS, TIME-WORDS, STANDING-WORDS}
 use Rattle.repository.specs.NetOf.{count}
 use Rattle.repository.specs.Laid.{headed, wellSized, limited, startsSection, wellStarted, positioned, laid, Starts, Laid}
 use Rattle.check_shape.specs.Shape.{Headed, Roomy, routeFits}
@@ -36,7 +36,7 @@ module _ (w : List ℕ) where
       ∷ eqb (size w ROUTE-TRIP-STARTS) (size w ROUTE-STOP-STARTS)
       ∷ leb 1 (size w TIME-STARTS) ∷ eqb (size w ROUTE-TRIPS) (trips w) ∷ leb 1 (size w AREA-STARTS)
       ∷ eqb (size w CALLS % CALL-WORDS) 0 ∷ eqb (size w TRANSFERS % TRANSFER-WORDS) 0 ∷ eqb (size w WALKS % WALK-WORDS) 0
-      ∷ eqb (size w TIMES % TIME-WORDS) 0 ∷ []
+      ∷ eqb (size w TIMES % TIME-WORDS) 0 ∷ eqb (size w STANDING) (trips w * STANDING-WORDS) ∷ []
 
   abbrev limitTests : List Bool
   limitTests =
@@ -155,6 +155,7 @@ laid-shown {w} e =
       transfers = eqb-true _ _ (size 12);
       walks = eqb-true _ _ (size 13);
       times = eqb-true _ _ (size 14);
+      standing-size = eqb-true _ _ (size 15);
       stops-limit = leb-true _ _ (limit 0);
       routes-limit = leb-true _ _ (limit 1);
       trips-limit = leb-true _ _ (limit 2);

@@ -1,5 +1,5 @@
 -- What the answers of the tests come to.
-use Prim.Native.Nat.{ℕ, _+_, _-_, _/_, _%_, _≤_, _<_}
+use Prim.Native.Nat.{ℕ, _+_, _-_, _*_, _/_, _%_, _≤_, _<_}
 use mathlib.Core.Path.{_≡_, sym, ap, _∙_}
 use mathlib.Core.Bool.{Bool, true, false, _&&_}
 use mathlib.Core.List.{List}
@@ -13,7 +13,8 @@ use Rattle.model.specs.Limits.{MOST-TRANSFERS, MOST-WALKS, MOST-AREAS, MOST-ARE
 use Rattle.repository.specs.Sections.{start, size, sec, STOP-LIST, STATIONS, CHILD-STARTS, CHILDREN, CALL-STARTS}
 use Rattle.repository.specs.Sections.{CALLS, SERVED, TRANSFER-STARTS, TRANSFERS, WALK-STARTS, WALKS, ROUTE-STOP-STARTS}
 use Rattle.repository.specs.Sections.{ROUTE-STOPS, ROUTE-TRIP-STARTS, ROUTE-TRIPS, TIME-STARTS, TIMES, AREA-STARTS}
-use Rattle.repository.specs.Sections.{AREA-STOPS, SECTIONS, HEADER, CALL-WORDS, TRANSFER-WORDS, WALK-WORDS, TIME-WORDS}
+use Rattle.repository.specs.Sections.{AREA-STOPS, STANDING, SECTIONS, HEADER, CALL-WORDS, TRANSFER-WORDS, WALK-WORDS, TIME-WORDS}
+use Rattle.repository.specs.Sections.{STANDING-WORDS}
 use Rattle.repository.specs.NetOf.{count}
 use Rattle.repository.specs.Laid.{headed, wellSized, limited, startsSection, wellStarted, positioned, laid}
 use Rattle.check_shape.specs.Shape.{noFall, routeFits, stopSized}
@@ -50,16 +51,16 @@ pub stop-sized-is : (w : List ℕ) {s stations children calls served transfers w
 unfolding stopSized
 stop-sized-is w es est ech eca ese etr ewa = rw (est, ech, eca, ese, etr, ewa, es)
 
-pub sized-is : (w : List ℕ) {b : Bool} {r trip-starts time-starts route-trips t area-starts calls transfers walks times : ℕ}
-    → b ≡ stopSized w → r ≡ size w ROUTE-STOP-STARTS
+pub sized-is : (w : List ℕ) {b : Bool} {r t trip-starts time-starts route-trips area-starts calls transfers walks times standing : ℕ}
+    → b ≡ stopSized w → r ≡ size w ROUTE-STOP-STARTS → t ≡ size w TIME-STARTS - 1
     → trip-starts ≡ size w ROUTE-TRIP-STARTS → time-starts ≡ size w TIME-STARTS → route-trips ≡ size w ROUTE-TRIPS
-    → t ≡ size w TIME-STARTS - 1 → area-starts ≡ size w AREA-STARTS
-    → calls ≡ size w CALLS → transfers ≡ size w TRANSFERS → walks ≡ size w WALKS → times ≡ size w TIMES
+    → area-starts ≡ size w AREA-STARTS → calls ≡ size w CALLS → transfers ≡ size w TRANSFERS → walks ≡ size w WALKS
+    → times ≡ size w TIMES → standing ≡ size w STANDING
     → b && leb 1 r && eqb trip-starts r && leb 1 time-starts && eqb route-trips t && leb 1 area-starts
     && eqb (calls % CALL-WORDS) 0 && eqb (transfers % TRANSFER-WORDS) 0 && eqb (walks % WALK-WORDS) 0
-    && eqb (times % TIME-WORDS) 0 ≡ wellSized w
+    && eqb (times % TIME-WORDS) 0 && eqb standing (t * STANDING-WORDS) ≡ wellSized w
 unfolding wellSized stopSized
-sized-is w eb er e13 e15 e14 et e17 e5 e8 e10 e16 = rw (eb, er, e13, e15, e14, et, e17, e5, e8, e10, e16)
+sized-is w eb er et e13 e15 e14 e17 e5 e8 e10 e16 e19 = rw (eb, er, et, e13, e15, e14, e17, e5, e8, e10, e16, e19)
 
 pub limited-is : (w : List ℕ) {s r t times transfers walks a named : ℕ} → s ≡ size w STOP-LIST → r ≡ size w ROUTE-STOP-STARTS - 1
     → t ≡ size w TIME-STARTS - 1

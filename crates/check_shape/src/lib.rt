@@ -89,16 +89,18 @@ fn sizes_ok(tables: &[u32]) -> bool
     ensures { λ r. ⌜ r ≡ wellSized (now (tables .entry)) ⌝ }
 {
     let r = size_of(tables, sections::ROUTE_STOP_STARTS);
+    let t = entries(tables, sections::TIME_STARTS);
     stop_sizes_ok(tables)
         & (1 <= r)
         & (size_of(tables, sections::ROUTE_TRIP_STARTS) == r)
         & (1 <= size_of(tables, sections::TIME_STARTS))
-        & (size_of(tables, sections::ROUTE_TRIPS) == entries(tables, sections::TIME_STARTS))
+        & (size_of(tables, sections::ROUTE_TRIPS) == t)
         & (1 <= size_of(tables, sections::AREA_STARTS))
         & (size_of(tables, sections::CALLS) % sections::CALL_WORDS == 0)
         & (size_of(tables, sections::TRANSFERS) % sections::TRANSFER_WORDS == 0)
         & (size_of(tables, sections::WALKS) % sections::WALK_WORDS == 0)
         & (size_of(tables, sections::TIMES) % sections::TIME_WORDS == 0)
+        & (size_of(tables, sections::STANDING) == t * sections::STANDING_WORDS)
 }
 
 // Whether no count is over its limit.

@@ -1,4 +1,4 @@
--- Laws that belong to no one function. For callers: Lists, Ranges, Trips, Stops, Sorted, Spans, Exact, Areas, Sound.
+-- Laws that belong to no one function. For callers: Lists, Ranges, Trips, Standing, Stops, Sorted, Spans, Exact, Areas, Sound.
 pub mod Tabs
 pub mod Rooms
 pub mod Leaves
@@ -15,3 +15,4 @@ pub mod Sound
 pub mod Narrow
 pub mod All
 pub mod Asked
+pub mod Standing

@@ -13,7 +13,7 @@ use Rattle.shared.specs.Walk.{Stretch}
 use Rattle.model.specs.Moments.{MAX}
 use Rattle.repository.specs.declared.places.Station.the-variants.{At, Nothing}
 use Rattle.repository.specs.Sections.{start, size, sec, stops, STOP-LIST, STATIONS, SERVED, ROUTE-STOP-STARTS}
-use Rattle.repository.specs.Sections.{ROUTE-STOPS, ROUTE-TRIP-STARTS, ROUTE-TRIPS, TIMES, SECTIONS, TIME-WORDS}
+use Rattle.repository.specs.Sections.{ROUTE-STOPS, ROUTE-TRIP-STARTS, ROUTE-TRIPS, TIMES, STANDING, SECTIONS, TIME-WORDS, STANDING-WORDS}
 use Rattle.repository.specs.Sections.{transferBits, transferMetres, walkBits, walkMetres}
 use Rattle.repository.specs.NetOf.{count, listOf, stationOf, netOf}
 use Rattle.repository.specs.Laid.{Laid}
@@ -21,7 +21,7 @@ use Rattle.repository.specs.Accepted.{Accepted}
 use Rattle.repository.specs.Readable.{Searchable}
 use Rattle.repository.specs.Entries.{Entry, Part, EntryWords}
 use Rattle.repository.specs.Rows.{Listing, calls, transfers, walks, startsOf, wideOf, rowCount, pastRow}
-use Rattle.repository.specs.Rows.{timeCount}
+use Rattle.repository.specs.Rows.{tripCount, timeCount}
 use Rattle.repository.specs.Station.{stationIs}
 use Rattle.repository.proofs.Tabs.{tab-shift}
 use Rattle.repository.proofs.Rooms.{room, row-room, stop-of-route, trip-of-route, past-in}
@@ -98,6 +98,11 @@ module _ {w : List ℕ} (row p : ℕ) (h : Laid w) (i : row + p < timeCount w) w
   pub departure-room : start w TIMES + ((row + p) * TIME-WORDS + 1) < length w
   unfolding timeCount
   departure-room = row-room h TIMES TIME-WORDS (omega arith) i (omega arith)
+
+-- the row of a trip's standing, by its first word
+pub standing-room : {w : List ℕ} {v : ℕ} → Laid w → v < tripCount w → start w STANDING + v * STANDING-WORDS < length w
+unfolding tripCount
+standing-room h i = room h STANDING (omega arith) (omega (arith, h .standing-size))
 
 -- the metres of searchable tables
 pub stretch-of : (bits : ℕ) (d : Float) → Stretch (ofBits binary32 bits) → d ≡ ofBits binary32 bits → Stretch d

@@ -13,7 +13,7 @@ steps f (suc d) i m h l =
     let more : i + suc d ≡ suc (i + d) = omega arith in
     rw more (omega (arith, steps f d i m h (omega arith), h (i + d) (omega arith)))
 
-never-falls : (f : ℕ → ℕ) (i j m : ℕ) → ((k : ℕ) → suc k < m → f k ≤ f (suc k)) → i ≤ j → j < m → f i ≤ f j
+pub never-falls : (f : ℕ → ℕ) (i j m : ℕ) → ((k : ℕ) → suc k < m → f k ≤ f (suc k)) → i ≤ j → j < m → f i ≤ f j
 never-falls f i j m h l g = let sum : i + (j - i) ≡ j = omega arith in rw sum at (steps f (j - i) i m h (omega arith))
 
 module _ {n : Net} (o : Ordered n) {r p i j : ℕ} (hr : r < n .routes) (hp : p < n .positions r) (l : i ≤ j)

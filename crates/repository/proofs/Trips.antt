@@ -37,11 +37,14 @@ module _ {w : List ℕ} {r v : ℕ} (h : Searchable w) (i : r < netOf w .routes)
 pub place-of-trip : {n : Net} {r i v : ℕ} → i < n .trips r → v ≡ n .tripAt r i → TripOf n r v
 place-of-trip {i = i} l e = record { place = i; within = l; trip = e }
 
+pub trip-counted : {w : List ℕ} {r i : ℕ} → Searchable w → r < netOf w .routes → i < netOf w .trips r
+    → netOf w .tripAt r i < tripCount w
+trip-counted {w} {r} {i} h l k = trip-known {r = r} h l (place-of-trip {n = netOf w} {r = r} {i = i} k refl)
+
 -- "16,384 trips"
 pub trip-few : {w : List ℕ} {r i : ℕ} → Searchable w → r < netOf w .routes → i < netOf w .trips r → netOf w .tripAt r i < MOST-TRIPS
 unfolding tripCount
-trip-few {w} {r} {i} h l k =
-    let most = h .laid .trips-limit in omega (arith, trip-known {r = r} h l (place-of-trip {n = netOf w} {r = r} {i = i} k refl))
+trip-few h l k = let most = h .laid .trips-limit in omega (arith, trip-counted h l k)
 
 -- so no route has more places for them
 pub place-few : {w : List ℕ} {r i : ℕ} → Searchable w → r < netOf w .routes → i < netOf w .trips r → i < MOST-TRIPS

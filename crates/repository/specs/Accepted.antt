@@ -13,7 +13,7 @@ use Rattle.repository.specs.Sections.{ROUTE-TRIP-STARTS, ROUTE-TRIPS, TI
 use Rattle.repository.specs.Sections.{TRANSFER-WORDS, WALK-WORDS, stopListAt, stationAt, servedAt, childAt}
 use Rattle.repository.specs.Sections.{routeStopAt, routeTripAt, areaStopAt, callRoute, callFirst, callLast}
 use Rattle.repository.specs.Sections.{transferFrom, transferTo, transferStated, transferMetres, walkTo, walkMetres}
-use Rattle.repository.specs.Sections.{stopOn}
+use Rattle.repository.specs.Sections.{standingRoute, standingPlace, stopOn}
 use Rattle.repository.specs.NetOf.{count, netOf}
 use Rattle.repository.specs.Laid.{Laid}
 
@@ -49,6 +49,9 @@ pub record Listed (w : List ℕ) : Type 0 where
   pub trip-once : (i j : ℕ) → i < j → j < size w ROUTE-TRIPS → routeTripAt w i ≢ routeTripAt w j
   pub trip-long : (r i : ℕ) → r < routes w
       → Under w ROUTE-TRIP-STARTS r i → count w TIME-STARTS (routeTripAt w i) ≡ count w ROUTE-STOP-STARTS r
+  pub standing-route : (v : ℕ) → v < trips w → standingRoute w v < routes w
+  pub standing-under : (v : ℕ) → v < trips w → Under w ROUTE-TRIP-STARTS (standingRoute w v) (standingPlace w v)
+  pub standing-trip : (v : ℕ) → v < trips w → routeTripAt w (standingPlace w v) ≡ v
   pub call-route : (s j : ℕ) → s < stops w → Under w CALL-STARTS s j → callRoute w j < routes w
   pub call-first-in : (s j : ℕ) → s < stops w
       → Under w CALL-STARTS s j → callFirst w j < count w ROUTE-STOP-STARTS (callRoute w j)

@@ -12,8 +12,8 @@ use Rattle.model.specs.Limits.{MOST-TRANSFERS, MOST-WALKS, MOST-AREAS, MOST-ARE
 use Rattle.repository.specs.Sections.{start, size, sec, stops, routes, trips, areas, rows, STOP-LIST, STATIONS}
 use Rattle.repository.specs.Sections.{CHILD-STARTS, CHILDREN, CALL-STARTS, CALLS, SERVED, TRANSFER-STARTS, TRANSFERS}
 use Rattle.repository.specs.Sections.{WALK-STARTS, WALKS, ROUTE-STOP-STARTS, ROUTE-STOPS, ROUTE-TRIP-STARTS}
-use Rattle.repository.specs.Sections.{ROUTE-TRIPS, TIME-STARTS, TIMES, AREA-STARTS, AREA-STOPS, SECTIONS, HEADER}
-use Rattle.repository.specs.Sections.{CALL-WORDS, TRANSFER-WORDS, WALK-WORDS, TIME-WORDS}
+use Rattle.repository.specs.Sections.{ROUTE-TRIPS, TIME-STARTS, TIMES, AREA-STARTS, AREA-STOPS, STANDING, SECTIONS, HEADER}
+use Rattle.repository.specs.Sections.{CALL-WORDS, TRANSFER-WORDS, WALK-WORDS, TIME-WORDS, STANDING-WORDS}
 use Rattle.repository.specs.NetOf.{count}
 
 -- the header
@@ -31,6 +31,7 @@ wellSized w =
     && leb 1 (size w TIME-STARTS) && eqb (size w ROUTE-TRIPS) (trips w) && leb 1 (size w AREA-STARTS)
     && eqb (size w CALLS % CALL-WORDS) 0 && eqb (size w TRANSFERS % TRANSFER-WORDS) 0
     && eqb (size w WALKS % WALK-WORDS) 0 && eqb (size w TIMES % TIME-WORDS) 0
+    && eqb (size w STANDING) (trips w * STANDING-WORDS)
 
 -- "Most: 4,096 stops, 1,024 routes, .., 16,384 trips, 262,144 stop times, 16,384 transfers, 32,768 walk entries, 1,024 areas, 16,384 area
 -- entries"
@@ -89,6 +90,7 @@ pub record Laid (w : List ℕ) : Type 0 where
   pub transfers : size w TRANSFERS % TRANSFER-WORDS ≡ 0
   pub walks : size w WALKS % WALK-WORDS ≡ 0
   pub times : size w TIMES % TIME-WORDS ≡ 0
+  pub standing-size : size w STANDING ≡ trips w * STANDING-WORDS
   pub stops-limit : stops w ≤ MOST-STOPS
   pub routes-limit : routes w ≤ MOST-ROUTES
   pub trips-limit : trips w ≤ MOST-TRIPS

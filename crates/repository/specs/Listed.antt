@@ -10,7 +10,7 @@ use Rattle.repository.specs.Sections.{size, sec, stops, routes, trips, a
 use Rattle.repository.specs.Sections.{CALL-STARTS, TRANSFER-STARTS, WALKS, ROUTE-STOP-STARTS, ROUTE-STOPS}
 use Rattle.repository.specs.Sections.{ROUTE-TRIP-STARTS, ROUTE-TRIPS, TIME-STARTS, AREA-STARTS, AREA-STOPS, WALK-WORDS}
 use Rattle.repository.specs.Sections.{stopListAt, stationAt, servedAt, childAt, routeTripAt, callRoute, callFirst}
-use Rattle.repository.specs.Sections.{callLast, transferFrom, transferTo, walkTo, stopOn}
+use Rattle.repository.specs.Sections.{callLast, transferFrom, transferTo, walkTo, standingRoute, standingPlace, stopOn}
 use Rattle.repository.specs.NetOf.{count}
 
 -- i does not pass
@@ -92,6 +92,16 @@ timeEach w r i = eqb (count w TIME-STARTS (routeTripAt w i)) (count w ROUTE-STOP
 unfoldable pub tripTimes : List ℕ → Bool
 tripTimes w = all (under w ROUTE-TRIP-STARTS (timeEach w)) 0 (routes w)
 
+-- "Each trip stands in exactly one route": its row names that route and the trip's place there
+unfoldable pub standing : List ℕ → ℕ → Bool
+standing w v =
+    let r = standingRoute w v in
+    let j = standingPlace w v in
+    ltb r (routes w) && leb (sec w ROUTE-TRIP-STARTS r) j && ltb j (sec w ROUTE-TRIP-STARTS (r + 1)) && eqb (routeTripAt w j) v
+
+unfoldable pub standings : List ℕ → Bool
+standings w = all (standing w) 0 (trips w)
+
 -- row j of the calls, under stop s, names a route in which the stop stands at the first and the last position that it names
 unfoldable pub call : List ℕ → ℕ → ℕ → Bool
 call w s j =
@@ -170,7 +180,7 @@ areasListed w = inRange w AREA-STOPS (stops w) && areasOnce w
 
 -- the rules for stops, stations and routes
 unfoldable pub framed : List ℕ → Bool
-framed w = stopList w && stations w && children w && routeStops w && routeTrips w && tripTimes w
+framed w = stopList w && stations w && children w && routeStops w && routeTrips w && tripTimes w && standings w
 
 -- and those for what stands at stops
 unfoldable pub wellListed : List ℕ → Bool

@@ -5,7 +5,7 @@ use mathlib.Core.List.{List}
 use Rattle.base.specs.Tab.{tab}
 use Rattle.model.specs.Tables.{Net}
 use Rattle.repository.specs.Sections.{sec, trips, rows, CALL-STARTS, TRANSFER-STARTS, WALK-STARTS, TIME-STARTS, TIMES}
-use Rattle.repository.specs.Sections.{CALL-WORDS, TRANSFER-WORDS, WALK-WORDS, TIME-WORDS}
+use Rattle.repository.specs.Sections.{CALL-WORDS, TRANSFER-WORDS, WALK-WORDS, TIME-WORDS, standingRoute}
 use Rattle.repository.specs.NetOf.{netOf}
 
 -- the three lists of rows that stand under a stop
@@ -59,6 +59,10 @@ timeCount w = rows w TIMES TIME-WORDS
 
 unfoldable pub timeRow : List ℕ → ℕ → ℕ
 timeRow w v = sec w TIME-STARTS v
+
+-- the route that a trip stands in
+unfoldable pub routeOfTrip : List ℕ → ℕ → ℕ
+routeOfTrip w v = standingRoute w v
 
 -- trip v has a position p
 pub record Stands (w : List ℕ) (v p : ℕ) : Type 0 where

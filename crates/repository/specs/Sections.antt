@@ -1,4 +1,4 @@
--- The flat tables: a header of 20 words, then 19 sections, each beginning where the one before ends. Nobody above this crate knows it.
+-- The flat tables: a header of 21 words, then 20 sections, each beginning where the one before ends. Nobody above this crate knows it.
 -- Every number of the layout stands in this file and, for code, in sections.rt, and nowhere else.
 use Prim.Native.Nat.{ℕ, _+_, _-_, _*_, _/_}
 use mathlib.Core.List.{List}
@@ -84,13 +84,17 @@ AREA-STARTS = 17
 abbrev pub AREA-STOPS : ℕ
 AREA-STOPS = 18
 
+-- rows of 2, one for each trip: its route, its place among `ROUTE-TRIPS`
+abbrev pub STANDING : ℕ
+STANDING = 19
+
 -- how many sections there are
 abbrev pub SECTIONS : ℕ
-SECTIONS = 19
+SECTIONS = 20
 
 -- the words of the header: word k is where section k begins, the last one the length of the tables
 abbrev pub HEADER : ℕ
-HEADER = 20
+HEADER = 21
 
 -- The words of a row, where it has more than one
 
@@ -105,6 +109,9 @@ WALK-WORDS = 2
 
 abbrev pub TIME-WORDS : ℕ
 TIME-WORDS = 2
+
+abbrev pub STANDING-WORDS : ℕ
+STANDING-WORDS = 2
 
 -- Reading
 
@@ -198,6 +205,14 @@ walkBits w j = sec w WALKS (j * WALK-WORDS + 1)
 
 abbrev pub walkMetres : List ℕ → ℕ → Float
 walkMetres w j = metres (walkBits w j)
+
+-- of a trip: its route, and the row of `ROUTE-TRIPS` that it is
+
+abbrev pub standingRoute : List ℕ → ℕ → ℕ
+standingRoute w v = sec w STANDING (v * STANDING-WORDS)
+
+abbrev pub standingPlace : List ℕ → ℕ → ℕ
+standingPlace w v = sec w STANDING (v * STANDING-WORDS + 1)
 
 -- the stop at position p of route r, and trip i of its order
 

@@ -1,10 +1,11 @@
-// The stops and the trips of a route.
+// The stops and the trips of a route, and the route of a trip.
 ghost use mathlib.Core.Path.{_≡_};
 ghost use Prim.Native.Nat.{_<_};
 ghost use Rattle.base.specs.Tab.{tab};
 ghost use Rattle.repository.specs.Laid.{Laid};
 ghost use Rattle.repository.specs.Readable.{Readable};
 ghost use Rattle.repository.specs.NetOf.{netOf};
+ghost use Rattle.repository.specs.Rows.{tripCount, routeOfTrip};
 use crate::sections;
 use crate::words;
 
@@ -61,4 +62,21 @@ pub fn trip_at(tables: &[u32], r: u32, i: u32) -> u32
 {
     let a = words::row_from(tables, sections::ROUTE_TRIP_STARTS, r) as usize;
     words::word(tables, sections::ROUTE_TRIPS, a + i as usize)
+}
+
+pub fn trip_count(tables: &[u32]) -> u32
+    requires { ⌜ Laid (now tables) ⌝ }
+    ensures { λ n. ⌜ n ≡ tripCount (now (tables .entry)) ⌝ }
+{
+    words::size_of(tables, sections::TIME_STARTS) - 1
+}
+
+// The route that a trip stands in.
+pub fn route_of(tables: &[u32], v: u32) -> u32
+    requires { ⌜ Laid (now tables) ⌝ }
+    requires { ⌜ v < tripCount (now tables) ⌝ }
+    ensures { λ r. ⌜ r ≡ routeOfTrip (now (tables .entry)) v ⌝ }
+{
+    let at = v as usize * sections::STANDING_WORDS;
+    words::word(tables, sections::STANDING, at)
 }

@@ -37,9 +37,11 @@ pub const AREA_STARTS: usize = 17;
 
 pub const AREA_STOPS: usize = 18;
 
-pub const SECTIONS: usize = 19;
+pub const STANDING: usize = 19;
 
-pub const HEADER: usize = 20;
+pub const SECTIONS: usize = 20;
+
+pub const HEADER: usize = 21;
 
 pub const CALL_WORDS: usize = 3;
 
@@ -49,8 +51,10 @@ pub const WALK_WORDS: usize = 2;
 
 pub const TIME_WORDS: usize = 2;
 
+pub const STANDING_WORDS: usize = 2;
+
 // A call's first word is its route; a transfer's the stop that it leaves; a walk's the stop that it leads to; a time's
-// the arrival.
+// the arrival; a standing's the route.
 pub const CALL_FIRST: usize = 1;
 
 pub const CALL_LAST: usize = 2;
@@ -64,3 +68,5 @@ pub const TRANSFER_METRES: usize = 3;
 pub const WALK_METRES: usize = 1;
 
 pub const DEPARTURE: usize = 1;
+
+pub const STANDING_PLACE: usize = 1;

@@ -1,7 +1,7 @@
--- `framed_ok`: six parts, in their order.
+-- `framed_ok`: seven parts, in their order.
 use borrow.Author.Needs.{needs}
 use Rattle.check_listing.proofs.Parts.{no-stop-list, no-station, no-child, no-route-stop, no-route-trip}
-use Rattle.check_listing.proofs.Parts.{framed-whole, trips-passed}
+use Rattle.check_listing.proofs.Parts.{no-trip-time, framed-whole, trips-passed}
 use Rattle.check_listing.proofs.framed_ok.Statement.{statement}
 use Rattle.check_listing.proofs.framed_ok.Tie as tie
 
@@ -39,7 +39,13 @@ trip-times-ok-requires : tie.Need-trip-times-ok-requires
 trip-times-ok-requires c κs = (search needs, trips-passed _ (c .before .route-trips-ok .ensures) (c .if5 .left))
 
 returns-6 : tie.Need-returns-6
-returns-6 c = search (needs, framed-whole)
+returns-6 c = search (needs, no-trip-time)
+
+standings-ok-requires : tie.Need-standings-ok-requires
+standings-ok-requires c κs = search needs
+
+returns-7 : tie.Need-returns-7
+returns-7 c = search (needs, framed-whole)
 
 pub framed-ok-spec : {M : Type 1} → statement M
 framed-ok-spec =
@@ -56,4 +62,6 @@ framed-ok-spec =
     route-trips-ok-requires
     returns-5
     trip-times-ok-requires
-    returns-6)
+    returns-6
+    standings-ok-requires
+    returns-7)

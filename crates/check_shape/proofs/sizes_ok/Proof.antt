@@ -8,6 +8,9 @@ use Rattle.check_shape.proofs.sizes_ok.Tie as tie
 size-of-requires : tie.Need-size-of-requires
 size-of-requires c κs = ((search), lit< tt)
 
+entries-requires : tie.Need-entries-requires
+entries-requires c κs = ((search), lit< tt)
+
 stop-sizes-ok-requires : tie.Need-stop-sizes-ok-requires
 stop-sizes-ok-requires c κs = search needs
 
@@ -19,9 +22,6 @@ size-of-requires-3 c κs = ((search), lit< tt)
 
 size-of-requires-4 : tie.Need-size-of-requires-4
 size-of-requires-4 c κs = ((search), lit< tt)
-
-entries-requires : tie.Need-entries-requires
-entries-requires c κs = ((search), lit< tt)
 
 size-of-requires-5 : tie.Need-size-of-requires-5
 size-of-requires-5 c κs = ((search), lit< tt)
@@ -38,6 +38,12 @@ size-of-requires-8 c κs = ((search), lit< tt)
 size-of-requires-9 : tie.Need-size-of-requires-9
 size-of-requires-9 c κs = ((search), lit< tt)
 
+size-of-requires-10 : tie.Need-size-of-requires-10
+size-of-requires-10 c κs = ((search), lit< tt)
+
+mul-result : tie.Need-mul-result
+mul-result c = search needs
+
 returns : tie.Need-returns
 returns c = search sized-is
 
@@ -46,14 +52,16 @@ sizes-ok-spec =
     tie.close
     (tie.spec
     size-of-requires
+    entries-requires
     stop-sizes-ok-requires
     size-of-requires-2
     size-of-requires-3
     size-of-requires-4
-    entries-requires
     size-of-requires-5
     size-of-requires-6
     size-of-requires-7
     size-of-requires-8
     size-of-requires-9
+    size-of-requires-10
+    mul-result
     returns)
