@@ -80,3 +80,14 @@ upto-has (suc n) i k h g =
     split (eqb i k)
     (λ t. List·Memᴰ·head (sym (eqb-true i k t)))
     (λ t. let p : i ≡ k → ⊥ = eqb-false i k t in List·Memᴰ·tail (upto-has n (suc i) k (omega arith) (omega arith)))
+
+-- the loop over them
+module _ {f : ℕ → Bool} {goal : Bool} (i b : ℕ) (h : Sought f goal (upto (b - i) i)) where
+  pub number-next : {x : Bool} → i < b → x ≡ f i → x ≡ false → Sought f goal (upto (b - (i + 1)) (i + 1))
+  number-next l e t = sought-next h (upto-step i b l) (sym e ∙ t)
+
+  pub number-found : {x : Bool} → i < b → x ≡ f i → x ≡ true → true ≡ goal
+  number-found l e t = sought-found h (upto-step i b l) (sym e ∙ t)
+
+  pub number-none : b ≤ i → false ≡ goal
+  number-none l = sought-none h (upto-end i b l)

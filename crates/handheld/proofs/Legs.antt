@@ -35,7 +35,7 @@ record FitsAt (n : Net) (r v : ℕ) (g : Leg) (b a : ℕ) : Type 0 where
   arrival : n .arrival v a ≡ g .arrival .0
 
 module _ (n : Net) (r v : ℕ) (g : Leg) where
-  comes-sound : (a : ℕ) → comesFrom n r v g a ≡ true → (p : ℕ) × (a ≤ p) × (p < n .positions r) × (comesAt n r v g p ≡ true)
+  pub comes-sound : (a : ℕ) → comesFrom n r v g a ≡ true → (p : ℕ) × (a ≤ p) × (p < n .positions r) × (comesAt n r v g p ≡ true)
   unfolding comesFrom
   comes-sound a e =
       let m = any-at (comesAt n r v g) (upto (n .positions r - a) a) e in

@@ -1,0 +1,2 @@
+-- The laws that the functions of `judge_rides` cite.
+pub mod Riding

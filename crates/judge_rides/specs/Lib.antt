@@ -1,0 +1,2 @@
+-- The definitions that the contracts of `judge_rides` cite.
+pub mod Ridable
