@@ -1,0 +1,2 @@
+-- The laws that the functions of `judge` cite.
+pub mod Steps
