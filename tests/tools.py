@@ -295,7 +295,7 @@ def kept_journeys():
 
 def as_timetable(w):
     """The routes of a network as a timetable, which numbers trips in the order of its lines."""
-    part = [w[w[k]:w[k + 1]] for k in range(19)]
+    part = [w[w[k]:w[k + 1]] for k in range(20)]
     lines, numbers = [f"stops {len(part[0])}"], {}
     for r in range(len(part[11]) - 1):
         lines.append("route " + " ".join(map(str, part[12][part[11][r]:part[11][r + 1]])))
