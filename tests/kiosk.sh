@@ -41,13 +41,13 @@ moved() { awk -v d="$1" '{ for (i = $18 + 2; i <= $19 + 1; i++) $i += d; print }
 moved 86400 town >town86400
 moved 450 n >n450
 moved 172800 n >n172800
-echo 20 25 x >letter
-echo 20 25 -1 >minus
-echo 20 net 25 >late
-echo nets 20 25 >nets
-echo n 20 25 >short
-echo 20 4294967296 >large
-echo 20 99999999999999999999999999 >larger
+echo 21 26 x >letter
+echo 21 26 -1 >minus
+echo 21 net 26 >late
+echo nets 21 26 >nets
+echo n 21 26 >short
+echo 21 4294967296 >large
+echo 21 99999999999999999999999999 >larger
 awk 'BEGIN { for (i = 0; i < 6144; i++) print 0 }' >words6144
 awk 'BEGIN { for (i = 0; i < 6145; i++) print 0 }' >words6145
 : >empty

@@ -201,8 +201,8 @@ class Tables:
             if r >= self.routes:
                 yield Fault(self.at(19, v * 2), f"trip {v} names it as its route, and {there_are(self.routes, 'route')}", rule)
             elif place not in self.under(13, r):
-                has = f"has those from {self.sec(13, r)} up to below {self.sec(13, r + 1)}" if self.count(13, r) else "has none"
-                yield Fault(self.at(19, v * 2 + 1), f"trip {v} names it as its place in route {r}, which {has}", rule)
+                has = f"the places {self.sec(13, r)} to {self.sec(13, r + 1) - 1}" if self.count(13, r) else "no trip"
+                yield Fault(self.at(19, v * 2 + 1), f"trip {v} names it as its place in route {r}, which has {has}", rule)
             elif self.sec(14, place) != v:
                 yield Fault(self.at(19, v * 2 + 1), f"trip {v} names it as its place in route {r}, where trip {self.sec(14, place)} stands", rule)
 
