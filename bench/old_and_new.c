@@ -6,7 +6,7 @@
    round, in the same workspace, so that other work on the machine meets both alike; what is counted is the processor's time. Printed are the
    medians over the rounds in microseconds, and that of the rounds' quotients, with those that a quarter of the rounds are below and above; and
    the quotient of the least times: of each query the least over the rounds, summed. The last two kinds ask the old one alone, as if it were both:
-   their quotients are the noise. */
+   their quotients are the noise. An old library that has the layout before is given the city in that one. */
 #include <stdio.h>
 #include <stdlib.h>
 #include <string.h>
@@ -20,7 +20,7 @@ solver old_kiosk_solve_checked;
 uint32_t old_kiosk_check(const uint32_t *tables, size_t tables_len);
 
 enum { OLD, NEW, BOTH, QUERIES = 64, CHECKS = 8, MOST_ROUNDS = 1001 };
-static flat city;
+static flat city[BOTH];                 /* the same one in the layout of each */
 static lent given[BOTH];
 
 static double now(void) {
@@ -36,21 +36,32 @@ static void end(const char *why) { fprintf(stderr, "%s\n", why), exit(1); }
 typedef void runner(const lent *l, const query *q);
 static void keep(uint32_t number) { volatile uint32_t kept = number; (void)kept; }
 static void by_old(const lent *l, const query *q) {
-    keep(q ? ask(old_kiosk_solve_checked, city.word, city.len, l, q) : old_kiosk_check(city.word, city.len));
+    keep(q ? ask(old_kiosk_solve_checked, city[OLD].word, city[OLD].len, l, q) : old_kiosk_check(city[OLD].word, city[OLD].len));
 }
 static void by_new(const lent *l, const query *q) {
-    keep(q ? ask(kiosk_solve_checked, city.word, city.len, l, q) : kiosk_check(city.word, city.len));
+    keep(q ? ask(kiosk_solve_checked, city[NEW].word, city[NEW].len, l, q) : kiosk_check(city[NEW].word, city[NEW].len));
 }
 
 /* ---- the city, and queries in it on which both give the same answer, journey and workspace */
 
+/* The tables in the layout before, of 20 words of header: without the last section. */
+static flat before_standing(const flat *f) {
+    flat older = { .len = f->word[STANDING] - 1 };
+    older.word = malloc(4 * older.len);
+    for (int k = 0; k < HEADER - 1; k++) older.word[k] = f->word[k] - 1;
+    memcpy(older.word + HEADER - 1, f->word + HEADER, 4 * (older.len - (HEADER - 1)));
+    return older;
+}
+
 static void make_ready(void) {
     network n = { 0 };
     make_city(&n, limit_city, 1);
-    flatten(&n, &city);
-    if (old_kiosk_check(city.word, city.len) != 0 || kiosk_check(city.word, city.len) != 0) end("the city is refused");
+    flatten(&n, &city[NEW]);
+    city[OLD] = city[NEW];
+    if (old_kiosk_check(city[OLD].word, city[OLD].len) != 0) city[OLD] = before_standing(&city[NEW]);
+    if (old_kiosk_check(city[OLD].word, city[OLD].len) != 0 || kiosk_check(city[NEW].word, city[NEW].len) != 0) end("the city is refused");
     for (int i = 0; i < BOTH; i++) {
-        right_lengths(city.word, given[i].len);
+        right_lengths(city[NEW].word, given[i].len);
         given[i].len[JOURNEY] = KIOSK_MOST_JOURNEY, given[i].len[ANSWER] = 5;
         for (int k = 0; k < SLICES; k++) given[i].at[k] = malloc(bytes_of(&given[i], k));
     }
@@ -61,7 +72,7 @@ static void draw(uint32_t when, uint32_t mode, query *q) {
     if (n.stops == 0) make_city(&n, limit_city, 1);
     for (int k = 0; k < QUERIES;) {
         q[k] = city_query(&n, when, mode);
-        if (refusal(city.word, &q[k])) continue;
+        if (refusal(city[NEW].word, &q[k])) continue;
         for (int i = 0; i < BOTH; i++) for (int s = 0; s < SLICES; s++) memset(given[i].at[s], JUNK, bytes_of(&given[i], s));
         by_old(&given[OLD], &q[k]), by_new(&given[NEW], &q[k]);
         for (int s = 0; s < SLICES; s++) if (memcmp(given[OLD].at[s], given[NEW].at[s], bytes_of(&given[OLD], s)) != 0) end(slice_name[s]);

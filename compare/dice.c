@@ -33,7 +33,7 @@ void sample(uint32_t n, uint32_t k, uint32_t *out) {
 }
 
 uint32_t odd_word(uint32_t len) {
-    const uint32_t some[] = { 0, 1, 2, 20, len - 1, len, len + 1, 4096, 4097, 1000000, 1000001, 86400, 86401, 0x7FFFFFFF, 0x80000000,
+    const uint32_t some[] = { 0, 1, 2, 21, len - 1, len, len + 1, 4096, 4097, 1000000, 1000001, 86400, 86401, 0x7FFFFFFF, 0x80000000,
                               0xFFFFFFFE, 0xFFFFFFFF, 0x7FC00000, 0x47C35000, 0x47C35001 };
     return percent(70) ? some[below_n(sizeof some / 4)] : percent(70) ? range(0, 2 * len) : (uint32_t)roll();
 }

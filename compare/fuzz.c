@@ -57,10 +57,12 @@ static const uint8_t wide[SECTIONS] = { [CHILDREN] = 1, [CALLS] = CALL_WORDS, [T
     [ROUTE_STOPS] = 1, [ROUTE_TRIPS] = 1, [TIMES] = TIME_WORDS, [AREA_STOPS] = 1 };
 
 /* The tables in a block of their own. A section that grows goes on with its last word, and the rows of a list go to its last entry; but the
-   stop list and the trips count on, and new stops have no station and are not served. So a small input can stand for large tables. */
+   stop list and the trips count on, new stops have no station and are not served, and a new trip's standing is a row, whose place counts on.
+   So a small input can stand for large tables. */
 static uint32_t *tables_of(const input *in, size_t *len) {
     const uint32_t *w = in->word;
-    size_t n = in->bytes / 4, growing = (size_t)__builtin_popcount(in->h.grown & ((1u << SECTIONS) - 1)) * in->h.more;
+    uint32_t parts = (uint32_t)__builtin_popcount(in->h.grown & ((1u << SECTIONS) - 1)) + (in->h.grown >> STANDING & 1) * (STANDING_WORDS - 1);
+    size_t n = in->bytes / 4, growing = (size_t)parts * in->h.more;
     if (!framed(w, n) || growing > MOST_GROWN) growing = 0;
     uint32_t *out = block(4 * (*len = n + growing), 0), at = HEADER;
     if (growing == 0) { memcpy(out, w, 4 * n); return out; }
@@ -69,7 +71,9 @@ static uint32_t *tables_of(const input *in, size_t *len) {
         out[k] = at;
         memcpy(out + at, w + w[k], 4 * (size_t)size), at += size;
         if (!(in->h.grown >> k & 1)) continue;
-        for (uint32_t i = 0; i < in->h.more; i++, at++)
+        for (uint32_t i = 0; k == STANDING && i < in->h.more; i++, at += STANDING_WORDS)
+            out[at] = size_of(w, ROUTE_TRIP_STARTS) - 2, out[at + STANDING_PLACE] = size / STANDING_WORDS + i;      /* in the last route */
+        for (uint32_t i = 0; k != STANDING && i < in->h.more; i++, at++)
             out[at] = k == STOP_LIST || k == ROUTE_TRIPS ? size + i : wide[k] && size ? out[at - wide[k]] : last;
         if (wide[k]) out[out[k] - 1] += in->h.more / wide[k];
     }
@@ -246,7 +250,8 @@ static void change_words(input *in) {
     uint32_t *w = in->word, len = (uint32_t)(in->bytes / 4);
     for (uint32_t i = range(1, 3); i > 0 && len > 0; i--) {
         uint32_t low = 0, high = len, k = percent(25) ? below_n(SECTIONS) : PICK(
-            STOP_LIST, STATIONS, CHILDREN, CALLS, SERVED, TRANSFERS, TRANSFERS, WALKS, WALKS, ROUTE_STOPS, ROUTE_TRIPS, TIMES, TIMES, TIMES, AREA_STOPS);
+            STOP_LIST, STATIONS, CHILDREN, CALLS, SERVED, TRANSFERS, TRANSFERS, WALKS, WALKS, ROUTE_STOPS, ROUTE_TRIPS, TIMES, TIMES, TIMES, AREA_STOPS,
+            STANDING);
         if (framed(w, len) && w[k] < w[k + 1] && percent(95)) low = w[k], high = w[k + 1];
         uint32_t at = range(low, high - 1), about = low > 0 && percent(60) ? stops_in(w) : high - low;      /* the stops, or this section */
         w[at] = percent(40) ? w[at] + PICK(1, ABSENT) : percent(50) ? w[range(low, high - 1)] : odd_word(about);
@@ -280,7 +285,7 @@ static void change_growth(input *in) {
     static const struct { uint32_t grown, section, most; } some[] = {
         { BIT(STOP_LIST) | BIT(STATIONS) | BIT(CHILD_STARTS) | BIT(CALL_STARTS) | BIT(SERVED) | BIT(TRANSFER_STARTS) | BIT(WALK_STARTS),
           STOP_LIST, MOST_STOPS },
-        { BIT(ROUTE_TRIPS) | BIT(TIME_STARTS), ROUTE_TRIPS, MOST_TRIPS }, { BIT(TIMES), TIMES, TIME_WORDS * MOST_STOP_TIMES },
+        { BIT(ROUTE_TRIPS) | BIT(TIME_STARTS) | BIT(STANDING), ROUTE_TRIPS, MOST_TRIPS }, { BIT(TIMES), TIMES, TIME_WORDS * MOST_STOP_TIMES },
         { BIT(TRANSFERS), TRANSFERS, TRANSFER_WORDS * MOST_TRANSFERS }, { BIT(WALKS), WALKS, WALK_WORDS * MOST_WALKS },
         { BIT(ROUTE_STOPS), ROUTE_STOPS, MOST_POSITIONS }, { BIT(AREA_STARTS), AREA_STARTS, MOST_AREAS + 1 },
         { BIT(AREA_STOPS), AREA_STOPS, MOST_AREA_ENTRIES } };
@@ -322,7 +327,7 @@ size_t first_input(unsigned seed, uint8_t *data, size_t most) {
 /* A length that is one word too long. */
 void lie(const char *what) {
     static input in;
-    draw_input(&in, 0);                 /* a city, whose last word is an area's stop */
+    draw_input(&in, 0);                 /* a city, whose last word is a trip's place */
     uint32_t *tables = block(in.bytes, 0), *cut = block(in.bytes - 4, 0), *room = block(8, 0);
     memcpy(tables, in.word, in.bytes), memcpy(cut, in.word, in.bytes - 4);
     if (strcmp(what, "tables") == 0) kiosk_check(cut, in.bytes / 4);

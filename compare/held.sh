@@ -37,6 +37,6 @@ sed -n 's/^pub const \([A-Z_]*\): [a-z0-9]* = \([0-9_]*\);$/\1 \2/p' crates/repo
     while read -r name value; do
         ! grep -qw "$name" plain/tables.h || echo "_Static_assert($name == $(echo "$value" | tr -d _), \"$name\");"
     done > $out/layout.c
-[ "$(wc -l < $out/layout.c)" -ge 36 ] || { echo "plain/tables.h has other names than crates/repository/src"; exit 1; }
+[ "$(wc -l < $out/layout.c)" -ge 39 ] || { echo "plain/tables.h has other names than crates/repository/src"; exit 1; }
 cc -fsyntax-only -include plain/tables.h $out/layout.c
 echo "plain/tables.h: $(wc -l < $out/layout.c) names and limits are those of crates/repository"

@@ -81,6 +81,14 @@ static list calls_of(const network *n, uint32_t *served) {
     return calls;
 }
 
+/* Of each trip its route and its place among the route trips, once those are written. */
+static void put_standing(flat *f, uint32_t trips) {
+    uint32_t *row = begin(f, STANDING, STANDING_WORDS * (size_t)trips);
+    const uint32_t *start = section_of(f->word, ROUTE_TRIP_STARTS), *trip = section_of(f->word, ROUTE_TRIPS);
+    for (uint32_t r = 0; r < routes_in(f->word); r++) for (uint32_t i = start[r]; i < start[r + 1]; i++)
+        row[STANDING_WORDS * trip[i]] = r, row[STANDING_WORDS * trip[i] + STANDING_PLACE] = i;
+}
+
 void flatten(const network *n, flat *f) {
     uint32_t S = n->stops, *served = calloc(S + 1, 4), *p;
     list calls = calls_of(n, served), children = { 0 };         /* station, stop */
@@ -104,5 +112,6 @@ void flatten(const network *n, flat *f) {
     put_list(f, ROUTE_TRIPS, &n->route_trips, n->routes, 1);
     put_list(f, TIMES, &n->times, n->trips, 1);
     put_list(f, AREA_STOPS, &n->area_stops, n->areas, 1);
+    put_standing(f, n->trips);
     free(served), free(calls.word), free(children.word);
 }

@@ -29,6 +29,7 @@ uint32_t plain_check(const uint32_t *w, size_t len) {
         || SIZE(WALK_STARTS) != S + 1) return 1;
     if (SIZE(ROUTE_STOP_STARTS) < 1 || SIZE(ROUTE_TRIP_STARTS) != SIZE(ROUTE_STOP_STARTS) || SIZE(TIME_STARTS) < 1
         || SIZE(ROUTE_TRIPS) != SIZE(TIME_STARTS) - 1 || SIZE(AREA_STARTS) < 1) return 1;
+    if (SIZE(STANDING) % STANDING_WORDS || SIZE(STANDING) / STANDING_WORDS != SIZE(TIME_STARTS) - 1) return 1;
     if (SIZE(CALLS) % CALL_WORDS || SIZE(TRANSFERS) % TRANSFER_WORDS || SIZE(WALKS) % WALK_WORDS || SIZE(TIMES) % TIME_WORDS) return 1;
     uint32_t R = SIZE(ROUTE_STOP_STARTS) - 1, T = SIZE(TIME_STARTS) - 1, A = SIZE(AREA_STARTS) - 1, Q = SIZE(CALLS) / CALL_WORDS,
         F = SIZE(TRANSFERS) / TRANSFER_WORDS, W = SIZE(WALKS) / WALK_WORDS, X = SIZE(TIMES) / TIME_WORDS;
@@ -38,12 +39,13 @@ uint32_t plain_check(const uint32_t *w, size_t len) {
         *qs = section_of(w, CALL_STARTS), *q = section_of(w, CALLS), *sv = section_of(w, SERVED), *fs = section_of(w, TRANSFER_STARTS),
         *f = section_of(w, TRANSFERS), *ws = section_of(w, WALK_STARTS), *wk = section_of(w, WALKS), *ps = section_of(w, ROUTE_STOP_STARTS),
         *p = section_of(w, ROUTE_STOPS), *ts = section_of(w, ROUTE_TRIP_STARTS), *t = section_of(w, ROUTE_TRIPS),
-        *xs = section_of(w, TIME_STARTS), *x = section_of(w, TIMES), *as = section_of(w, AREA_STARTS), *ar = section_of(w, AREA_STOPS);
+        *xs = section_of(w, TIME_STARTS), *x = section_of(w, TIMES), *as = section_of(w, AREA_STARTS), *ar = section_of(w, AREA_STOPS),
+        *sd = section_of(w, STANDING);
     if (!starts_ok(cs, S, SIZE(CHILDREN)) || !starts_ok(qs, S, Q) || !starts_ok(fs, S, F) || !starts_ok(ws, S, W)
         || !starts_ok(ps, R, SIZE(ROUTE_STOPS)) || !starts_ok(ts, R, T) || !starts_ok(xs, T, X) || !starts_ok(as, A, SIZE(AREA_STOPS))) return 1;
     for (uint32_t r = 0; r < R; r++) if (ps[r + 1] - ps[r] < 1 || ps[r + 1] - ps[r] > MOST_POSITIONS) return 1;
 
-    /* 2: stations and children, routes and trips, calls and served marks, footpaths, areas */
+    /* 2: stations and children, routes and trips, standings, calls and served marks, footpaths, areas */
     set seen;
     for (uint32_t s = 0; s < S; s++) if (section_of(w, STOP_LIST)[s] != s || (st[s] != ABSENT && st[s] >= S)) return 2;
     memset(&seen, 0, sizeof seen);
@@ -59,6 +61,10 @@ uint32_t plain_check(const uint32_t *w, size_t len) {
         put(&seen, t[i]);
     }
     for (uint32_t r = 0; r < R; r++) for (uint32_t i = ts[r]; i < ts[r + 1]; i++) if (xs[t[i] + 1] - xs[t[i]] != ps[r + 1] - ps[r]) return 2;
+    for (uint32_t v = 0; v < T; v++) {
+        uint32_t r = sd[STANDING_WORDS * v], i = sd[STANDING_WORDS * v + STANDING_PLACE];
+        if (r >= R || i < ts[r] || i >= ts[r + 1] || t[i] != v) return 2;
+    }
     for (uint32_t s = 0; s < S; s++) {
         uint32_t passed = 0;
         for (uint32_t j = qs[s]; j < qs[s + 1]; j++) {

@@ -5,16 +5,16 @@
 #include <stdint.h>
 
 /* The sections in their order. A list stands right behind its starts: its rows under entry i are those from start[i] up to below
-   start[i + 1]. */
+   start[i + 1]. STANDING has no starts: a row for each trip. */
 enum {
     STOP_LIST, STATIONS, CHILD_STARTS, CHILDREN, CALL_STARTS, CALLS, SERVED, TRANSFER_STARTS, TRANSFERS, WALK_STARTS, WALKS,
-    ROUTE_STOP_STARTS, ROUTE_STOPS, ROUTE_TRIP_STARTS, ROUTE_TRIPS, TIME_STARTS, TIMES, AREA_STARTS, AREA_STOPS,
+    ROUTE_STOP_STARTS, ROUTE_STOPS, ROUTE_TRIP_STARTS, ROUTE_TRIPS, TIME_STARTS, TIMES, AREA_STARTS, AREA_STOPS, STANDING,
     SECTIONS, HEADER                    /* how many there are, and the words of the header */
 };
 
 /* The words of a row, where they are more than one: route, first position, last position; from, to, span, metres; to, metres; arrival,
-   departure. */
-enum { CALL_WORDS = 3, TRANSFER_WORDS = 4, WALK_WORDS = 2, TIME_WORDS = 2 };
+   departure; route, place among the route trips. */
+enum { CALL_WORDS = 3, TRANSFER_WORDS = 4, WALK_WORDS = 2, TIME_WORDS = 2, STANDING_WORDS = 2, STANDING_PLACE = 1 };
 
 /* Document 01's "Most:". */
 enum {

@@ -15,8 +15,8 @@ here = os.path.dirname(os.path.abspath(__file__))
 root = os.path.join(here, "..")
 sys.path.insert(0, os.path.join(root, "tools"))
 from damaging import damaged
-from second_check import (AREA_STOPS, CALLS, CALL_STARTS, CHILDREN, MAX, ROUTE_STOPS, ROUTE_STOP_STARTS, ROUTE_TRIPS, ROUTE_TRIP_STARTS,
-                          SERVED, STATIONS, STOP_LIST, TIMES, TIME_STARTS, TRANSFERS, WALKS, number)
+from second_check import (AREA_STOPS, CALLS, CALL_STARTS, CHILDREN, HEADER, MAX, ROUTE_STOPS, ROUTE_STOP_STARTS, ROUTE_TRIPS, ROUTE_TRIP_STARTS,
+                          SECTIONS, SERVED, STANDING, STATIONS, STOP_LIST, TIMES, TIME_STARTS, TRANSFERS, WALKS, number)
 from timetable import Timetable
 
 NETWORKS = 5000  # that are damaged in a run
@@ -46,6 +46,18 @@ def changed(words, section, place, value):
     return w
 
 
+def ended(words, more):
+    """The tables with a longer or a shorter last section, as the header says too."""
+    w = words[:more] if more < 0 else words + [0] * more
+    w[SECTIONS] = len(w)
+    return w
+
+
+def of_layout_20(words):
+    """The tables as they were before the last section."""
+    return [k - 1 for k in words[:HEADER - 1]] + words[HEADER:words[STANDING]]
+
+
 def listed():
     """(comment, words): N and M, and for each number damaged copies of N, among them each boundary."""
     calls = [(100, 100), (200, 210), (300, 300)]
@@ -61,10 +73,13 @@ def listed():
     yield "no stop at all", build(0, [])
     # 1
     yield "no word", []
-    yield "19 words", n[:19]
-    yield "a header that begins at 21", [21] + n[1:]
+    yield "20 words", n[:20]
+    yield "a header that begins at 22", [22] + n[1:]
+    yield "N in the layout before, of 20 words of header", of_layout_20(n)
+    yield "no stop at all in the layout before", of_layout_20(build(0, []))
+    yield "N in the layout before, under this one's number", [HEADER] + of_layout_20(n)[1:]
     yield "one word more than the header says", n + [0]
-    yield "a section that falls", changed(n, STOP_LIST, 3 - 20, 5)
+    yield "a section that falls", changed(n, STOP_LIST, 3 - HEADER, 5)
     yield "a starts section that begins with 1", changed(n, CALL_STARTS, 0, 1)
     yield "a starts section that ends short", changed(n, ROUTE_TRIP_STARTS, 2, 3)
     yield "a starts section that falls", changed(n, TIME_STARTS, 1, 9)
@@ -76,6 +91,10 @@ def listed():
     yield "1,025 routes", build(1, [([0], [])] * 1025)
     yield "1,024 areas", build(1, [], areas=[[]] * 1024)
     yield "1,025 areas", build(1, [], areas=[[]] * 1025)
+    yield "the standing of the last trip cut by a word", ended(n, -1)
+    yield "the standing of the last trip left out", ended(n, -2)
+    yield "a word more of standings", ended(n, 1)
+    yield "a row more of standings than trips", ended(n, 2)
     # 2
     yield "the stop list out of place", changed(n, STOP_LIST, 1, 2)
     yield "a station out of range", changed(n, STATIONS, 0, 5)
@@ -84,6 +103,19 @@ def listed():
     yield "a stop of a route out of range", changed(n, ROUTE_STOPS, 2, 5)
     yield "a trip in two routes", changed(n, ROUTE_TRIPS, 2, 0)
     yield "a trip out of range", changed(n, ROUTE_TRIPS, 2, 4)
+    idle = build(5, [([0, 1, 2], [calls, later]), ([4, 0], []), last])
+    yield "a route without a trip between two others", idle
+    yield "a trip that stands in no route there is", changed(n, STANDING, 0, 2)
+    yield "a trip that stands in route MAX", changed(n, STANDING, 0, MAX)
+    yield "a trip that stands in the route before its own", changed(n, STANDING, 4, 0)
+    yield "a trip that stands in the route behind its own", changed(n, STANDING, 2, 1)
+    yield "a trip that stands in a route without a trip", changed(idle, STANDING, 4, 1)
+    yield "a trip at the first place of the next route", changed(n, STANDING, 3, 2)
+    yield "a trip at a place behind all", changed(n, STANDING, 7, 4)
+    yield "a trip at place MAX", changed(n, STANDING, 7, MAX)
+    yield "a trip at the place of another in its route", changed(n, STANDING, 1, 1)
+    yield "two trips of a route at each other's places", changed(changed(n, STANDING, 1, 1), STANDING, 3, 0)
+    yield "two trips of a route exchanged, and not their standings", changed(changed(n, ROUTE_TRIPS, 0, 1), ROUTE_TRIPS, 1, 0)
     yield "a call that names another route", changed(n, CALLS, 0, 1)
     yield "a call's first position", changed(n, CALLS, 4, 0)
     yield "a call's last position", changed(n, CALLS, 5, 2)
@@ -109,6 +141,8 @@ def listed():
     yield "arrivals out of order by one second", changed(two, TIMES, 4, 9)
     yield "departures out of order by one second", changed(two, TIMES, 5, 19)
     yield "arrivals out of order at the last position", changed(two, TIMES, 6, 29)
+    turned = changed(changed(n, ROUTE_TRIPS, 0, 1), ROUTE_TRIPS, 1, 0)
+    yield "two trips of a route exchanged, and their standings", changed(changed(turned, STANDING, 1, 1), STANDING, 3, 0)
     same = build(5, [([0, 1, 2], [calls, calls]), last], [(2, 3, 30, 0.0)])
     yield "N with trip 1 at trip 0's moments", same
     yield "and an arrival one second sooner", changed(same, TIMES, 8, 199)

@@ -16,21 +16,23 @@ under 'N with a station, two areas and a walk' >areas
 under '128 positions in a route' >stops129
 under '1,024 routes' >routes1024
 under 'a route without a stop' >bad1
+under 'N in the layout before, of 20 words of header' >layout20
 under 'a served mark left unset' >bad2
+under 'a trip at the place of another in its route' >standing
 under 'N with a first moment of 0' >bad3
 under 'and an arrival one second sooner' >bad4
 under 'N with a distance of NaN' >bad5
-# area 0 names stop 0, which has no children
-awk '{ $(NF - 2) = 0; print }' areas >unserved
+# area 0 names stop 0, which has no children: word 18 says where the stops of the areas begin
+awk '{ $($20 + 2) = 0; print }' areas >unserved
 # N with the transfer 3 to 2 listed too (N9)
 awk '$0 == "# network N9" { getline; print; exit }' "$root/oracle/cases.txt" >n9
 # one route over stops 0 and 1, and a walk between stops 1 and 2
-echo net 20 23 26 30 30 34 40 43 47 47 51 55 57 59 61 62 64 68 69 69 0 1 2 4294967295 4294967295 4294967295 0 0 0 0 0 1 2 2 0 0 0 0 1 1 1 \
-    1 0 0 0 0 0 0 0 1 2 2 1070386381 1 1070386381 0 2 0 1 0 1 0 0 2 5 5 9 9 0 >walk
+echo net 21 24 27 31 31 35 41 44 48 48 52 56 58 60 62 63 65 69 70 70 72 0 1 2 4294967295 4294967295 4294967295 0 0 0 0 0 1 2 2 0 0 0 0 1 1 1 \
+    1 0 0 0 0 0 0 0 1 2 2 1070386381 1 1070386381 0 2 0 1 0 1 0 0 2 5 5 9 9 0 0 0 >walk
 # M with no `net`, its words over many lines, each end of a line two bytes, and no end behind the last word
 cut -d' ' -f2- m | tr ' ' '\n' | sed 's/$/\r/' | awk 'NR > 1 { printf "\n" } { printf "%s", $0 }' >lines
 # one stop and one area
-echo net 20 21 22 24 24 26 26 27 29 29 31 31 32 32 33 33 34 34 36 37 0 4294967295 0 0 0 0 0 0 0 0 0 0 0 0 0 1 0 >stop1
+echo net 21 22 23 25 25 27 27 28 30 30 32 32 33 33 34 34 35 35 37 38 38 0 4294967295 0 0 0 0 0 0 0 0 0 0 0 0 0 1 0 >stop1
 cp "$root/examples/N.txt" timetable
 # N and the town with seconds added to every moment: words 16 and 17 say where the moments begin and end
 moved() { awk -v d="$1" '{ for (i = $18 + 2; i <= $19 + 1; i++) $i += d; print }' "$2"; }
@@ -39,13 +41,13 @@ moved() { awk -v d="$1" '{ for (i = $18 + 2; i <= $19 + 1; i++) $i += d; print }
 moved 86400 town >town86400
 moved 450 n >n450
 moved 172800 n >n172800
-echo 20 25 x >letter
-echo 20 25 -1 >minus
-echo 20 net 25 >late
-echo nets 20 25 >nets
-echo n 20 25 >short
-echo 20 4294967296 >large
-echo 20 99999999999999999999999999 >larger
+echo 21 26 x >letter
+echo 21 26 -1 >minus
+echo 21 net 26 >late
+echo nets 21 26 >nets
+echo n 21 26 >short
+echo 21 4294967296 >large
+echo 21 99999999999999999999999999 >larger
 awk 'BEGIN { for (i = 0; i < 6144; i++) print 0 }' >words6144
 awk 'BEGIN { for (i = 0; i < 6145; i++) print 0 }' >words6145
 : >empty
@@ -116,6 +118,9 @@ ride trip 2 from stop 3 at 0:05:50 to stop 4 at 0:07:30
 > 0 4 depart 50 tables:bad1
 1: a count over its limit, a route without a stop, a slice of wrong length
 tools/fault.py bad1 says where
+> 0 4 depart 50 tables:layout20
+1: a count over its limit, a route without a stop, a slice of wrong length
+tools/fault.py layout20 says where
 > 0 4 depart 50 tables:empty
 1: a count over its limit, a route without a stop, a slice of wrong length
 tools/fault.py empty says where
@@ -125,6 +130,9 @@ tools/fault.py words6144 says where
 > 0 4 depart 50 tables:bad2
 2: an index out of range, or a list breaking a listing rule
 tools/fault.py bad2 says where
+> 0 4 depart 50 tables:standing
+2: an index out of range, or a list breaking a listing rule
+tools/fault.py standing says where
 > 0 4 depart 50 tables:bad3
 3: a timetable moment outside 1 to 1,000,000; arrival after departure at a position; departure after the next position's arrival
 tools/fault.py bad3 says where

@@ -6,7 +6,7 @@ TIMETABLES = [
     ("", ": this timetable is empty: its first line is `stops N`, how many stops there are"),
     ("# nothing\n\n", ": this timetable is empty: its first line is `stops N`, how many stops there are"),
     ("route 0 1\n", ", line 1: the first line is `stops N`, how many stops there are"),
-    ("net 20 25\n", ", line 1: these look like tables already: a timetable begins with `stops N`"),
+    ("net 21 26\n", ", line 1: these look like tables already: a timetable begins with `stops N`"),
     ("stops\n", ", line 1: `stops` takes one number, how many stops there are"),
     ("stops 2 3\n", ", line 1: `stops` takes one number, how many stops there are"),
     ("stops -2\n", ", line 1: `stops` takes one number, how many stops there are"),
@@ -115,12 +115,12 @@ JOURNEYS = [
     (N1.encode() + b"\xc3", 2, "standard input, line 5: a byte that belongs to no text in UTF-8"),
 ]
 TABLES = [
-    ("20 25 x\n", ", line 1: after 2 words, x is no number"), ("net 20\n25 -1\n", ", line 2: after 2 words, -1 is no number"),
-    ("20 net\n", ", line 1: after 1 word, net is no number"), ("net 20\t25\n", ", line 1: after 0 words, 20?25 is no number"),
-    ("\ufeffnet 20\n", ", line 1: after 0 words, ?net is no number"),
+    ("21 26 x\n", ", line 1: after 2 words, x is no number"), ("net 21\n26 -1\n", ", line 2: after 2 words, -1 is no number"),
+    ("21 net\n", ", line 1: after 1 word, net is no number"), ("net 21\t26\n", ", line 1: after 0 words, 21?26 is no number"),
+    ("\ufeffnet 21\n", ", line 1: after 0 words, ?net is no number"),
     ("stops 5\n", ", line 1: after 0 words, stops is no number: this looks like a timetable, and tools/timetable.py makes tables of it"),
-    ("20 4294967296\n", ", line 1: after 1 word, 4294967296 is above 4294967295, the most that a word holds"),
-    ("20 " + "9" * 5000, ", line 1: after 1 word, " + "9" * 40 + ".. is above 4294967295, the most that a word holds"),
+    ("21 4294967296\n", ", line 1: after 1 word, 4294967296 is above 4294967295, the most that a word holds"),
+    ("21 " + "9" * 5000, ", line 1: after 1 word, " + "9" * 40 + ".. is above 4294967295, the most that a word holds"),
 ]
 # asked in a way that a tool does not know: the tool, its arguments, what is said first
 ASKED = [

@@ -7,18 +7,19 @@ import struct
 MAX = 4294967295
 # the sections by their numbers
 (STOP_LIST, STATIONS, CHILD_STARTS, CHILDREN, CALL_STARTS, CALLS, SERVED, TRANSFER_STARTS, TRANSFERS, WALK_STARTS, WALKS, ROUTE_STOP_STARTS, ROUTE_STOPS,
- ROUTE_TRIP_STARTS, ROUTE_TRIPS, TIME_STARTS, TIMES, AREA_STARTS, AREA_STOPS) = range(19)
+ ROUTE_TRIP_STARTS, ROUTE_TRIPS, TIME_STARTS, TIMES, AREA_STARTS, AREA_STOPS, STANDING) = range(20)
+SECTIONS, HEADER = 20, 21      # how many there are, and the words of the header
 
 
 def number(w):
-    if len(w) < 20 or w[0] != 20 or w[19] != len(w) or sorted(w[:20]) != w[:20]:
+    if len(w) < HEADER or w[0] != HEADER or w[SECTIONS] != len(w) or sorted(w[:HEADER]) != w[:HEADER]:
         return 1
-    part = [w[w[k]:w[k + 1]] for k in range(19)]
+    part = [w[w[k]:w[k + 1]] for k in range(SECTIONS)]
     n = [len(p) for p in part]
     s, r, t, a = n[0], n[11] - 1, n[15] - 1, n[17] - 1
     if min(r, t, a) < 0 or n[5] % 3 or n[8] % 4 or n[10] % 2 or n[16] % 2:
         return 1
-    if [n[k] for k in (1, 2, 4, 6, 7, 9, 13, 14)] != [s, s + 1, s + 1, s, s + 1, s + 1, r + 1, t]:
+    if [n[k] for k in (1, 2, 4, 6, 7, 9, 13, 14, 19)] != [s, s + 1, s + 1, s, s + 1, s + 1, r + 1, t, 2 * t]:
         return 1
     if s > 4096 or r > 1024 or t > 16384 or n[16] > 524288 or n[8] > 65536 or n[10] > 65536 or a > 1024 or n[18] > 16384:
         return 1
@@ -36,6 +37,9 @@ def number(w):
     if part[0] != list(range(s)) or any(x >= s for stops in routes for x in stops) or sorted(part[14]) != list(range(t)):
         return 2
     if any(len(lists[15][v]) != len(stops) for stops, row in zip(routes, trips) for v in row):
+        return 2
+    standing = dict(zip(part[14], zip((k for k, row in enumerate(trips) for _ in row), range(t))))
+    if part[19] != [x for v in range(t) for x in standing[v]]:
         return 2
     calls = [[(k, stops.index(x), max(p for p, y in enumerate(stops) if y == x)) for k, stops in enumerate(routes) if x in stops] for x in range(s)]
     served = [int(any(trips[k] for k, _, _ in row)) for row in calls]

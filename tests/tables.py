@@ -46,7 +46,8 @@ def formula(path, name):
 
 # ==== the sections
 named = numbers(SECTIONS)
-wide = {name.removesuffix("-WORDS") + "S": value for name, value in named.items() if name.endswith("-WORDS")}
+row_of = lambda name: name.removesuffix("-WORDS") if name.removesuffix("-WORDS") in named else name.removesuffix("-WORDS") + "S"
+wide = {row_of(name): value for name, value in named.items() if name.endswith("-WORDS")}
 count, header = named.get("SECTIONS", 0), named.get("HEADER", 0)
 sections = {value: name for name, value in named.items() if name not in ("SECTIONS", "HEADER") and not name.endswith("-WORDS")}
 if sorted(sections) != list(range(count)) or not count:
@@ -55,7 +56,10 @@ if header != count + 1:
     complain(f"a header of {header} words does not say where {count} sections begin and where they end", SECTIONS)
 laid = text_of(LAID)
 length = {"STOP-LIST": "S", "ROUTE-STOP-STARTS": "R + 1", "TIME-STARTS": "T + 1", "AREA-STARTS": "A + 1"}  # the counts are defined by these
-for name, many in re.findall(r"size w ([A-Z-]+) ≡ (stops w \+ 1|stops w|trips w|size w [A-Z-]+)$", laid, re.M):
+for name, many in re.findall(r"size w ([A-Z-]+) ≡ (stops w \+ 1|stops w|trips w|trips w \* [A-Z-]+-WORDS|size w [A-Z-]+)$", laid, re.M):
+    if many == f"trips w * {name}-WORDS":
+        length[name] = f"{wide.get(name)} * T"
+        continue
     length[name] = {"stops w": "S", "stops w + 1": "S + 1", "trips w": "T"}.get(many) or length.get(many.removeprefix("size w "), "?")
 starts = {k: (of, behind) for k, of, behind in re.findall(r"Starts w ([A-Z-]+) \((\w+)s w\) \((?:size|rows) w ([A-Z-]+)[^)]*\)", laid)}
 own = rows("The sections")

@@ -160,7 +160,7 @@ def commands():
         expect(command(f"tools/{name}.py", 2, "usage:") == "", name, "writes its usage on the output")
         expect("usage" not in command(f"tools/{name}.py --help", 0), name)
         expect(command(f"tools/{name}.py nowhere", 2, "nowhere: cannot be read: No such file or directory\n") == "", name)
-    path = file("wrong", "20 25\n")
+    path = file("wrong", "21 26\n")
     expect(command(f"tools/fault.py {path}", 1).startswith("1: a count over its limit"), "fault.py")
     command("PYTHONIOENCODING=ascii LC_ALL=C tools/drawing.py --asked 9:00:00 examples/N.txt", 0, given=N1.encode())
 
@@ -249,6 +249,21 @@ def same_number(w, want):
     expect(not place or lines[2] == f"value: {w[int(place[1])]}", "the value is not the word's", text)
 
 
+def standings():
+    """Where the fault of a trip's standing is said to be, and of tables of the layout before."""
+    n = nets("crates/checktables/stdin")[0]
+    for at, value, row, what in ((0, 2, "row 0, route", "trip 0 names it as its route, and there are 2 routes"),
+                                 (1, 1, "row 0, place", "trip 0 names it as its place in route 0, where trip 1 stands"),
+                                 (3, 2, "row 1, place", "trip 1 names it as its place in route 0, which has the places 0 to 1"),
+                                 (7, 4, "row 3, place", "trip 3 names it as its place in route 1, which has the places 2 to 3")):
+        w = list(n)
+        w[w[19] + at] = value
+        k, text = fault.told(w)
+        expect(k == 2 and f"where: section 19, standing, {row}; word {120 + at} of the tables\nvalue: {value}\nwhat: {what}\n" in text, text)
+    k, text = fault.told([20] + n[1:])
+    expect(k == 1 and "where: the header, word 0\nvalue: 20\n" in text and "tables of another layout" in text, text)
+
+
 def check(rng, count):
     """fault.py and the second writing against the list, the kept networks, and damaged ones."""
     with open("crates/checktables/stdout") as text:
@@ -295,7 +310,7 @@ def kept_journeys():
 
 def as_timetable(w):
     """The routes of a network as a timetable, which numbers trips in the order of its lines."""
-    part = [w[w[k]:w[k + 1]] for k in range(19)]
+    part = [w[w[k]:w[k + 1]] for k in range(20)]
     lines, numbers = [f"stops {len(part[0])}"], {}
     for r in range(len(part[11]) - 1):
         lines.append("route " + " ".join(map(str, part[12][part[11][r]:part[11][r + 1]])))
@@ -340,6 +355,7 @@ def main():
     commands()
     examples()
     accepted, spoils = spoil(rng, 3000), 3000
+    standings()
     tables, by = check(rng, 3000)
     count = drawings(6)
     print(f"tools: {met} refusals met, {runs} runs without a traceback; of {spoils} spoilt timetables {accepted} accepted, by both checks too; "

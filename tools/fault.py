@@ -18,9 +18,12 @@ from manners import count, number, shown, there_are
 
 MAX = 4294967295
 NAMES = ["stop list", "stations", "child starts", "children", "call starts", "calls", "served", "transfer starts", "transfers", "walk starts",
-         "walks", "route stop starts", "route stops", "route trip starts", "route trips", "time starts", "times", "area starts", "area stops"]
+         "walks", "route stop starts", "route stops", "route trip starts", "route trips", "time starts", "times", "area starts", "area stops",
+         "standing"]
+SECTIONS, HEADER = 20, 21
 # the words of a row, where there are more than one
-COLUMNS = {5: ("route", "first position", "last position"), 8: ("from", "to", "span", "metres"), 10: ("to", "metres"), 16: ("arrival", "departure")}
+COLUMNS = {5: ("route", "first position", "last position"), 8: ("from", "to", "span", "metres"), 10: ("to", "metres"), 16: ("arrival", "departure"),
+           19: ("route", "place")}
 # document 01's sentences
 MEANS = ["these tables are accepted", "a count over its limit, a route without a stop, a slice of wrong length",
          "an index out of range, or a list breaking a listing rule",
@@ -39,8 +42,8 @@ def wide(k):
 class Tables:
     def __init__(self, words):
         self.w = words
-        if len(words) >= 20:
-            self.sizes = [max(0, words[k + 1] - words[k]) for k in range(19)]
+        if len(words) >= HEADER:
+            self.sizes = [max(0, words[k + 1] - words[k]) for k in range(SECTIONS)]
             self.stops, self.routes, self.trips, self.areas = self.sizes[0], *(max(0, self.sizes[k] - 1) for k in (11, 15, 17))
 
     def at(self, k, i):
@@ -64,18 +67,19 @@ class Tables:
 
     def headed(self):
         w = self.w
-        if len(w) < 20:
-            yield Fault(None, there_are(len(w), "word"), "tables begin with a header of 20 words")
+        if len(w) < HEADER:
+            yield Fault(None, there_are(len(w), "word"), f"tables begin with a header of {HEADER} words")
             return
-        if w[0] != 20:
-            yield Fault(0, "the first section begins there, and should begin at word 20", "the sections begin behind the header's 20 words")
-        for k in range(19):
+        if w[0] != HEADER:
+            yield Fault(0, f"the first section begins there, and should begin at word {HEADER}",
+                        f"the sections begin behind the header's {HEADER} words; tables of another layout have another number of them")
+        for k in range(SECTIONS):
             if w[k] > w[k + 1]:
-                what = f"section {k + 1}, {NAMES[k + 1]}, begins" if k < 18 else "the tables end"
+                what = f"section {k + 1}, {NAMES[k + 1]}, begins" if k + 1 < SECTIONS else "the tables end"
                 yield Fault(k + 1, f"{what} there, before section {k}, {NAMES[k]}, which begins at {w[k]}",
                             "each section begins where the one before ends")
-        if w[19] != len(w):
-            yield Fault(19, f"the tables should end there, and have {count(len(w), 'word')}", "the header's last word is the length of the tables")
+        if w[SECTIONS] != len(w):
+            yield Fault(SECTIONS, f"the tables should end there, and have {count(len(w), 'word')}", "the header's last word is the length of the tables")
 
     def extent(self, k):
         """Where section k stands: the header's word behind its own says up to where."""
@@ -83,15 +87,16 @@ class Tables:
 
     def sized(self):
         s = self.stops
-        stops = f"with {count(s, 'stop')}"
+        stops, trips = f"with {count(s, 'stop')}", f"with {count(self.trips, 'trip')}"
         for k, want, why in ((1, s, stops), (2, s + 1, stops), (4, s + 1, stops), (6, s, stops), (7, s + 1, stops), (9, s + 1, stops),
-                             (13, self.sizes[11], "as many as the route stop starts have"), (14, self.trips, f"with {count(self.trips, 'trip')}")):
+                             (13, self.sizes[11], "as many as the route stop starts have"), (14, self.trips, trips),
+                             (19, self.trips * wide(19), trips)):
             if self.sizes[k] != want:
                 yield Fault(k + 1, f"{self.extent(k)}; {why} it should have {want}", "each section is as long as the counts ask")
         for k in (11, 15, 17):
             if self.sizes[k] < 1:
                 yield Fault(k + 1, self.extent(k), "a starts section has one word at least")
-        for k in COLUMNS:
+        for k in (5, 8, 10, 16):
             if self.sizes[k] % wide(k):
                 yield Fault(k + 1, f"{self.extent(k)}, which are no rows of {wide(k)}", "a section holds whole rows")
 
@@ -189,6 +194,18 @@ class Tables:
                     yield Fault(self.at(15, v + 1), f"trip {v} begins at row {self.sec(15, v)} of the times and has {self.count(15, v)} of them; "
                                 f"its route {r} has {count(self.count(11, r), 'stop')}", "a trip has one stop time for each position of its route")
 
+    def standing(self):
+        rule = "a trip's standing is the route that it stands in and its place among the route trips"
+        for v in range(self.trips):
+            r, place = self.sec(19, v * 2), self.sec(19, v * 2 + 1)
+            if r >= self.routes:
+                yield Fault(self.at(19, v * 2), f"trip {v} names it as its route, and {there_are(self.routes, 'route')}", rule)
+            elif place not in self.under(13, r):
+                has = f"the places {self.sec(13, r)} to {self.sec(13, r + 1) - 1}" if self.count(13, r) else "no trip"
+                yield Fault(self.at(19, v * 2 + 1), f"trip {v} names it as its place in route {r}, which has {has}", rule)
+            elif self.sec(14, place) != v:
+                yield Fault(self.at(19, v * 2 + 1), f"trip {v} names it as its place in route {r}, where trip {self.sec(14, place)} stands", rule)
+
     def calls(self):
         rule = "a stop's calls name exactly the routes that contain it, with its first and last position there, once each, ascending"
         for s in range(self.stops):
@@ -250,8 +267,8 @@ class Tables:
             yield from self.once(18, self.under(17, a), "stop", "an area names no stop twice")
 
     def number_2(self):
-        for part in (self.stop_list(), self.stations(), self.children(), self.in_range(12, self.stops, "stop"), self.route_trips(), self.calls(),
-                     self.served(), self.transfers(), self.walks(), self.area_stops()):
+        for part in (self.stop_list(), self.stations(), self.children(), self.in_range(12, self.stops, "stop"), self.route_trips(),
+                     self.standing(), self.calls(), self.served(), self.transfers(), self.walks(), self.area_stops()):
             yield from part
 
     # numbers 3 to 5, on tables without a lower one: routes, then positions, then trips
@@ -308,9 +325,9 @@ class Tables:
         """Where a word stands, in plain words."""
         if word is None:
             return "the whole file"
-        if word < 20:
+        if word < HEADER:
             return f"the header, word {word}"
-        k = next(k for k in range(19) if self.w[k] <= word < self.w[k + 1])
+        k = next(k for k in range(SECTIONS) if self.w[k] <= word < self.w[k + 1])
         row, column = divmod(word - self.w[k], wide(k))
         return f"section {k}, {NAMES[k]}, row {row}" + (f", {COLUMNS[k][column]}" if k in COLUMNS else "") + f"; word {word} of the tables"
 

@@ -219,9 +219,10 @@ class Timetable:
         self.areas.append(list(stops))
 
     def words(self):
-        """The 19 sections in their order (crates/repository/specs/Sections.antt), and the header before them."""
+        """The 20 sections in their order (crates/repository/specs/Sections.antt), and the header before them."""
         calls = [[] for _ in range(self.stops)]
         served = [0] * self.stops
+        standing = {}       # of each trip its route, and its place among the trips of all routes
         for r, (stops, trips) in enumerate(self.routes):
             first, last = {}, {}
             for p, s in enumerate(stops):
@@ -230,6 +231,8 @@ class Timetable:
             for s in first:
                 calls[s].append((r, first[s], last[s]))
                 served[s] |= bool(trips)
+            for v in trips:
+                standing[v] = (r, len(standing))
         flat = lambda rows: [x for row in rows for x in row]
 
         def starts(lists):
@@ -245,8 +248,9 @@ class Timetable:
             starts(self.walks), flat(flat(self.walks)),
             starts([s for s, _ in self.routes]), flat(s for s, _ in self.routes),
             starts([t for _, t in self.routes]), flat(t for _, t in self.routes),
-            starts(self.times), [t + self.midnight for t in flat(flat(self.times))], starts(self.areas), flat(self.areas)]
-        header = [20]
+            starts(self.times), [t + self.midnight for t in flat(flat(self.times))], starts(self.areas), flat(self.areas),
+            flat(standing[v] for v in range(len(self.times)))]
+        header = [21]
         for section in sections:
             header.append(header[-1] + len(section))
         return header + flat(sections)

@@ -1,10 +1,10 @@
-//! Flat tables taken apart: a header of 20 words, then 19 sections. Who writes them: ../compare/network.c and ../tools/timetable.py.
+//! Flat tables taken apart: a header of 21 words, then 20 sections. Who writes them: ../compare/network.c and ../tools/timetable.py.
 use crate::{raptor::time_to_walk, shared::geo::Distance};
 
 /// No parent, or an unstated span.
 pub const NONE: u32 = u32::MAX;
 
-/// The sections in their order. A list stands right behind its starts.
+/// The sections in their order. A list stands right behind its starts; the last one, a row for each trip, has none.
 #[derive(Clone, Copy)]
 pub enum Section {
     StopList,
@@ -26,8 +26,12 @@ pub enum Section {
     Times,
     AreaStarts,
     AreaStops,
+    Standing,
 }
 use Section::*;
+
+/// The words of the header, which is the layout's number.
+const HEADER: usize = Standing as usize + 2;
 
 /// A flat image taken apart.
 pub struct Flat<'a> {
@@ -36,7 +40,8 @@ pub struct Flat<'a> {
 
 impl<'a> Flat<'a> {
     pub fn new(words: &'a [u32]) -> Result<Self, String> {
-        if words.len() < 20 || words[0] != 20 || words[19] as usize != words.len() || !words[..20].is_sorted() {
+        let whole = words.len() >= HEADER && words[0] as usize == HEADER && words[HEADER - 1] as usize == words.len();
+        if !whole || !words[..HEADER].is_sorted() {
             return Err("the header is wrong".into());
         }
         Ok(Flat { words })

@@ -4,7 +4,7 @@ use crate::gtfs::{StopTime, Transfer};
 use std::collections::HashMap;
 
 const ABSENT: u32 = u32::MAX;
-const HEADER: usize = 20;
+const HEADER: usize = 21;
 
 /// The words of the tables.
 pub(crate) fn words(
@@ -19,6 +19,8 @@ pub(crate) fn words(
 
     let mut calls = vec![vec![]; stops as usize];
     let mut served = vec![0; stops as usize];
+    let mut standing = vec![0; 2 * trips.len()]; // of each trip its route, and its place among the trips of all routes
+    let mut place = 0;
     for (number, route) in (0..).zip(&routes) {
         let mut ends: Vec<(u32, u32, u32)> = vec![]; // stop, first position, last position
         let mut at: HashMap<u32, usize> = HashMap::new();
@@ -32,6 +34,11 @@ pub(crate) fn words(
         for (stop, first, last) in ends {
             calls[stop as usize].extend([number, first, last]);
             served[stop as usize] = 1;
+        }
+        for &trip in route {
+            standing[2 * trip as usize] = number;
+            standing[2 * trip as usize + 1] = place;
+            place += 1;
         }
     }
     let mut paths = vec![vec![]; stops as usize];
@@ -58,6 +65,7 @@ pub(crate) fn words(
     sections.extend(starts_and_list(1, &routes));
     sections.extend(starts_and_list(2, &moments));
     sections.extend(starts_and_list(1, &[])); // areas
+    sections.push(standing);
 
     let mut words = vec![HEADER as u32];
     for section in &sections {

@@ -54,9 +54,9 @@ impl Error for TablesError {}
 ///
 /// ```compile_fail,E0506
 /// # use kiosk::Tables;
-/// let mut words = vec![0; 20];
+/// let mut words = vec![0; 21];
 /// let tables = Tables::check(&words);
-/// words[0] = 20;
+/// words[0] = 21;
 /// println!("{tables:?}");
 /// ```
 ///

@@ -35,13 +35,13 @@ static void nothing(const tables *t) {
     expect("no words for a leg", kiosk_leg(l.journey, 38, 0, NULL, 0), KIOSK_BAD_WORKSPACE);
 
     /* tables with no stop ask for no workspace: the header, and a 0 in each of the eight sections of starts */
-    static const unsigned char starts[19] = { 0, 0, 1, 0, 1, 0, 0, 1, 0, 1, 0, 1, 0, 1, 0, 1, 0, 1, 0 };
-    uint32_t none[28] = { 20 };
-    for (int k = 0; k < 19; k++) none[k + 1] = none[k] + starts[k];
-    expect("no stop", kiosk_check(none, 28), KIOSK_FOUND);
-    expect("its room", kiosk_room(none, 28, room, 3), KIOSK_FOUND), expect("is none", room[0] + room[1] + room[2], 0);
-    expect("no such stop", kiosk_solve(none, 28, NULL, 0, NULL, 0, NULL, 0, NULL, 0, 0, 0, 0, 0, 0, 1, 0, 0, answer, 5), KIOSK_BAD_PLACE);
-    expect("no such stop, checked", kiosk_solve_checked(none, 28, NULL, 0, NULL, 0, NULL, 0, NULL, 0, 0, 0, 0, 0, 0, 1, 0, 0, answer, 5),
+    static const unsigned char starts[20] = { 0, 0, 1, 0, 1, 0, 0, 1, 0, 1, 0, 1, 0, 1, 0, 1, 0, 1, 0, 0 };
+    uint32_t none[29] = { 21 };
+    for (int k = 0; k < 20; k++) none[k + 1] = none[k] + starts[k];
+    expect("no stop", kiosk_check(none, 29), KIOSK_FOUND);
+    expect("its room", kiosk_room(none, 29, room, 3), KIOSK_FOUND), expect("is none", room[0] + room[1] + room[2], 0);
+    expect("no such stop", kiosk_solve(none, 29, NULL, 0, NULL, 0, NULL, 0, NULL, 0, 0, 0, 0, 0, 0, 1, 0, 0, answer, 5), KIOSK_BAD_PLACE);
+    expect("no such stop, checked", kiosk_solve_checked(none, 29, NULL, 0, NULL, 0, NULL, 0, NULL, 0, 0, 0, 0, 0, 0, 1, 0, 0, answer, 5),
            KIOSK_BAD_PLACE);
     give_back(&l);
 }

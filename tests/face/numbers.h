@@ -13,23 +13,25 @@ static uint32_t changed(const tables *t, uint32_t at, uint32_t word) {
 
 static void numbers(const tables *n) {
     lent l = lend(n, KIOSK_MOST_JOURNEY);
-    const uint32_t transfer = n->words[8], trips = n->words[14], times = n->words[16];       /* where these sections begin */
+    const uint32_t transfer = n->words[8], trips = n->words[14], times = n->words[16], standing = n->words[19];    /* where these sections begin */
     kiosk_query q = kiosk_departure(0, 4, 50);
     kiosk_answer a = ask(n, &l, q);
     uint64_t told = 0;
     uint8_t bytes[1] = { 0 };
-    uint32_t leg[6], old;
+    uint32_t leg[6];
 
     expect("found", a.number, KIOSK_FOUND);
     expect("N1's time", a.time, 450), expect("N1's stop", a.stop, 4), expect("N1's round", a.round, 1), expect("N1's length", a.length, 59);
 
     expect("a slice of wrong length", kiosk_check(n->words, n->len - 1), KIOSK_BAD_COUNT);
-    expect("a header that is not so", changed(n, 19, 0), KIOSK_BAD_COUNT);
+    expect("a header that is not so", changed(n, 20, 0), KIOSK_BAD_COUNT);
+    expect("the layout before", changed(n, 0, 20), KIOSK_BAD_COUNT);
     expect("an index out of range", changed(n, transfer + 1, 5), KIOSK_BAD_LISTING);
     expect("no moment", changed(n, times, 0), KIOSK_BAD_TIMETABLE);
-    old = n->words[trips], n->words[trips] = n->words[trips + 1];
-    expect("trips exchanged", changed(n, trips + 1, old), KIOSK_BAD_ORDER);
-    n->words[trips] = old;
+    expect("another place of a trip", changed(n, standing + 1, 1), KIOSK_BAD_LISTING);
+    n->words[trips] = 1, n->words[trips + 1] = 0, n->words[standing + 1] = 1;
+    expect("trips exchanged", changed(n, standing + 3, 0), KIOSK_BAD_ORDER);
+    n->words[trips] = 0, n->words[trips + 1] = 1, n->words[standing + 1] = 0;
     expect("NaN metres", changed(n, transfer + 3, 0x7FC00000u), KIOSK_BAD_FOOTPATH);
     expect("as it was", kiosk_check(n->words, n->len), KIOSK_FOUND);
 

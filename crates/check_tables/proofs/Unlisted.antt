@@ -21,7 +21,8 @@ use Rattle.repository.specs.Listed.{fails, some, among, unseen, distinct, index
 use Rattle.repository.specs.Listed.{station, stations, child, ofStation, childrenName, childrenAll, children, routeStops}
 use Rattle.repository.specs.Listed.{routeTrips, timeEach, tripTimes, call, calls, later, ascending, called, calledAlong}
 use Rattle.repository.specs.Listed.{callsHold, callsRise, callsAll, stopRoutes, running, passes, servedMark, served}
-use Rattle.repository.specs.Listed.{transfer, transfers, walkIn, walks, areaOnce, areasOnce, areasListed, framed, wellListed}
+use Rattle.repository.specs.Listed.{transfer, transfers, walkIn, walks, areaOnce, areasOnce, areasListed}
+use Rattle.repository.specs.Listed.{standing, standings, framed, wellListed}
 use Rattle.repository.specs.Checked.{walk, timely, timed, behind, ordered, measured, checkOf}
 use Rattle.repository.specs.Accepted.{Under, Accepted}
 use Rattle.repository.specs.Readable.{CalledFrom, Indexed, Searchable}
@@ -31,10 +32,10 @@ use Rattle.check_tables.proofs.Whole.{check-is}
 
 -- stop 0 is not at place 0 of the stop list, and names station 9, which is none; stop 4 has the child 9 twice; stop 0's call has 9 for its last
 -- position, and stop 1's one before its first; stop 0 is served and has no mark, stop 5 is not and has one; the transfer under stop 2 says 9 for
--- it; trip 0 stands twice in route 0; the area names 9 twice
+-- it; trip 0 stands twice in route 0; each trip has 9 for its route and its place; the area names 9 twice
 abbrev pub unlisted : List ℕ
 unlisted =
-    20 ∷ 26 ∷ 32 ∷ 39 ∷ 41 ∷ 48 ∷ 63 ∷ 69 ∷ 76 ∷ 80 ∷ 87 ∷ 87 ∷ 90 ∷ 95 ∷ 98 ∷ 102 ∷ 107 ∷ 127 ∷ 129 ∷ 131
+    21 ∷ 27 ∷ 33 ∷ 40 ∷ 42 ∷ 49 ∷ 64 ∷ 70 ∷ 77 ∷ 81 ∷ 88 ∷ 88 ∷ 91 ∷ 96 ∷ 99 ∷ 103 ∷ 108 ∷ 128 ∷ 130 ∷ 132 ∷ 140
     ∷ 9 ∷ 1 ∷ 2 ∷ 3 ∷ 4 ∷ 5
     ∷ 9 ∷ 4294967295 ∷ 4294967295 ∷ 4294967295 ∷ 4294967295 ∷ 4294967295
     ∷ 0 ∷ 0 ∷ 0 ∷ 0 ∷ 0 ∷ 2 ∷ 2
@@ -53,7 +54,8 @@ unlisted =
     ∷ 100 ∷ 100 ∷ 200 ∷ 210 ∷ 300 ∷ 300 ∷ 400 ∷ 400 ∷ 500 ∷ 510 ∷ 600 ∷ 600
     ∷ 350 ∷ 350 ∷ 450 ∷ 450 ∷ 650 ∷ 650 ∷ 750 ∷ 750
     ∷ 0 ∷ 2
-    ∷ 9 ∷ 9 ∷ []
+    ∷ 9 ∷ 9
+    ∷ 9 ∷ 9 ∷ 9 ∷ 9 ∷ 9 ∷ 9 ∷ 9 ∷ 9 ∷ []
 
 -- ---- tests of what a search goes by
 
@@ -170,7 +172,7 @@ module _ (w : List ℕ) (ok : tests w ≡ passed) where
 number : checkOf unlisted ≡ 2
 unfolding checkOf laid headed wellSized limited startsSection wellStarted positioned size sec count netOf all every wellListed
     framed fails some among unseen distinct indexed inRange under inPlace stopList station stations child
-    ofStation childrenName childrenAll children routeStops routeTrips timeEach tripTimes call calls
+    ofStation childrenName childrenAll children routeStops routeTrips timeEach tripTimes standing standings call calls
     later ascending called calledAlong callsHold callsRise callsAll stopRoutes running passes servedMark
     served transfer transfers walks areaOnce areasOnce areasListed walk timely timed behind ordered
     measured ofBits le
@@ -179,11 +181,11 @@ number = refl
 -- and each test of a rule that no search goes by fails
 pub unlisted-breaks :
     stopList unlisted ∷ stations unlisted ∷ childrenName unlisted ∷ distinct unlisted CHILDREN 0 (size unlisted CHILDREN)
-    ∷ childrenAll unlisted ∷ distinct unlisted ROUTE-TRIPS 0 (size unlisted ROUTE-TRIPS) ∷ callsHold unlisted ∷ callsAll unlisted
-    ∷ served unlisted ∷ transfers unlisted ∷ inRange unlisted AREA-STOPS (stops unlisted) ∷ areasOnce unlisted ∷ []
-    ≡ false ∷ false ∷ false ∷ false ∷ false ∷ false ∷ false ∷ false ∷ false ∷ false ∷ false ∷ false ∷ []
+    ∷ childrenAll unlisted ∷ distinct unlisted ROUTE-TRIPS 0 (size unlisted ROUTE-TRIPS) ∷ standings unlisted ∷ callsHold unlisted
+    ∷ callsAll unlisted ∷ served unlisted ∷ transfers unlisted ∷ inRange unlisted AREA-STOPS (stops unlisted) ∷ areasOnce unlisted ∷ []
+    ≡ false ∷ false ∷ false ∷ false ∷ false ∷ false ∷ false ∷ false ∷ false ∷ false ∷ false ∷ false ∷ false ∷ []
 unfolding size sec count all every fails some among unseen distinct indexed inRange under inPlace stopList station stations child
-    ofStation childrenName childrenAll call calls called calledAlong callsHold callsAll running passes servedMark served transfer transfers
+    ofStation childrenName childrenAll standing standings call calls called calledAlong callsHold callsAll running passes servedMark served transfer transfers
     areaOnce areasOnce
 unlisted-breaks = refl
 

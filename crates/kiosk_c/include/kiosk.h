@@ -37,7 +37,7 @@ extern "C" {
 
 /* Raised by one whenever the tables' layout changes, or a function, a number, a word or a leg's bytes come to mean something else; a function
    more leaves it. Tables say their own layout, by their first word (docs/TABLES.md): those of another are answered with KIOSK_BAD_COUNT. */
-#define KIOSK_VERSION 1
+#define KIOSK_VERSION 2
 
 /* No journey takes more bytes (theorem `length-most` of crates/raptor/proofs/Promises.antt), so a buffer of so many is never answered with
    KIOSK_TOO_LONG (theorem `never-too-long` of crates/kiosk_c/proofs/Enough.antt). */
@@ -75,7 +75,7 @@ enum kiosk_kind { KIOSK_RIDE = 1, KIOSK_TRANSFER = 2, KIOSK_WALK = 3 };
 
 /* ==== The functions */
 
-/* Checks the tables: 0, or 1 to 5. The tables are one slice: a header of 20 words, then 19 sections. */
+/* Checks the tables: 0, or 1 to 5. The tables are one slice: a header of 21 words, then 20 sections. */
 uint32_t kiosk_check(const uint32_t *tables, size_t tables_len);
 
 /* The three lengths that a search on these tables asks for: `room` takes words, marks, places, in this order. 0, or the number of the fault;

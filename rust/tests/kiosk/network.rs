@@ -88,7 +88,7 @@ impl Network {
         children
     }
 
-    /// The flat words: a header that says where each section begins and how long all is, then the 19 sections.
+    /// The flat words: a header that says where each section begins and how long all is, then the 20 sections.
     pub fn words(&self) -> Vec<u32> {
         let transfer = |t: &Transfer| (t.from, vec![t.from, t.to, t.span, t.metres.to_bits()]);
         let walk = |w: &Walk| (w.from, vec![w.to, w.metres.to_bits()]);
@@ -100,6 +100,9 @@ impl Network {
             .map(|trip| trip.iter().flat_map(|&(arrival, departure)| [arrival, departure]).collect())
             .collect();
 
+        let route_of = self.routes.iter().enumerate().flat_map(|(number, r)| vec![number as u32; r.trips.len()]);
+        let standing = route_of.zip(0..).flat_map(|(route, trip)| [route, trip]).collect(); // a trip's place is its number
+
         let mut sections = vec![(0..self.stations.len() as u32).collect(), self.stations.clone()];
         sections.extend(starts_and_list(1, &self.children()));
         sections.extend(starts_and_list(3, &self.calls()));
@@ -110,12 +113,13 @@ impl Network {
         sections.extend(starts_and_list(1, &route_trips));
         sections.extend(starts_and_list(2, &times));
         sections.extend(starts_and_list(1, &self.areas));
+        sections.push(standing);
 
-        let mut words = vec![20];
+        let mut words = vec![21];
         for section in &sections {
             words.push(words[words.len() - 1] + section.len() as u32);
         }
-        assert_eq!(words.len(), 20);
+        assert_eq!(words.len(), 21);
         words.extend(sections.concat());
         words
     }

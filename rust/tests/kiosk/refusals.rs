@@ -29,10 +29,22 @@ fn tables_1_lengths() {
     for length in 0..words.len() {
         assert_eq!(number_of(&words[..length]), 1, "{length} words");
     }
-    for at in 0..20 {
+    for at in 0..21 {
         let mut words = words.clone();
         words[at] += 1;
         assert_eq!(number_of(&words), 1, "header word {at}");
+    }
+}
+
+/// The tables of the layout before: a header of 20 words, and no standings.
+#[test]
+fn tables_1_older() {
+    for network in [n(), m(), Network::default()] {
+        let words = network.words();
+        let header = words[..20].iter().map(|at| at - 1);
+        let older: Vec<u32> = header.chain(words[21..words[19] as usize].iter().copied()).collect();
+        assert_eq!(older[19] as usize, older.len());
+        assert_eq!(number_of(&older), 1);
     }
 }
 
@@ -53,6 +65,18 @@ fn tables_2() {
     assert_eq!(changed(|n| n.areas.push(vec![3, 3])), 2);
     assert_eq!(changed(|n| n.areas.push(vec![3, 4])), 0);
     assert_eq!(changed(|n| _ = n.routes[0].trips[0].pop()), 2);
+}
+
+/// A trip's row names its route and its place there: 0 0, 0 1, 1 2, 1 3.
+#[test]
+fn tables_2_standing() {
+    let words = n().words();
+    let standing = words.len() - 8;
+    for (at, word) in [(0, 2), (0, 1), (1, 1), (1, 4), (3, 2), (4, 0), (5, 3), (7, u32::MAX)] {
+        let mut words = words.clone();
+        words[standing + at] = word;
+        assert_eq!(number_of(&words), 2, "word {at} of the standings is {word}");
+    }
 }
 
 #[test]
