@@ -37,11 +37,11 @@ module _ (n : Net) (walking : Bool) where
   unfolding onward
   onward-wrong g e t = rw t
 
-  follow-to : (g : Leg) (gs : List Leg) (e f : Led) → onward n walking g e ≡ To f → follow n walking (g ∷ gs) e ≡ follow n walking gs f
+  pub follow-to : (g : Leg) (gs : List Leg) (e f : Led) → onward n walking g e ≡ To f → follow n walking (g ∷ gs) e ≡ follow n walking gs f
   unfolding follow
   follow-to g gs e f t = rw (t, follow)
 
-  follow-wrong : (g : Leg) (gs : List Leg) (e : Led) → onward n walking g e ≡ Wrong → follow n walking (g ∷ gs) e ≡ Wrong
+  pub follow-wrong : (g : Leg) (gs : List Leg) (e : Led) → onward n walking g e ≡ Wrong → follow n walking (g ∷ gs) e ≡ Wrong
   unfolding follow
   follow-wrong g gs e t = rw (t, follow)
 
@@ -62,6 +62,18 @@ module _ (n : Net) (walking : Bool) where
       let c = leb (ridesWith (g .kind) (e .rides)) MOST-ROUNDS in
       let d = fitsLeg n walking (g .kind) g in
       leb-true _ _ (and-left c d (and-right b (c && d) (and-right a (b && (c && d)) t)))
+
+  pub onward-few : (g : Leg) (e f : Led) → onward n walking g e ≡ To f → f .rides ≤ MOST-ROUNDS
+  unfolding led
+  onward-few g e f h =
+      split (follows n walking g e)
+      (λ t.
+      let q : led g e ≡ f = same (sym (onward-to g e t) ∙ h) in
+      subst (λ (x : Led). x .rides ≤ MOST-ROUNDS) q (most-rides g e t))
+      (λ t. wrong-to (sym (onward-wrong g e t) ∙ h))
+    where
+      same : {x y : Led} → To x ≡ To y → x ≡ y
+      same e = cc
 
   joined-on : (g : Leg) (gs : List Leg) (e : Led) {u y k : ℕ} → follows n walking g e ≡ true
       → Joined n walking (g .to) (g .arrival .0) u y k gs

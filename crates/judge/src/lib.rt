@@ -12,18 +12,15 @@ ghost use Rattle.journey.specs.Reading.{legFrom};
 ghost use Rattle.handheld.specs.Right.{soonest as soonestOf};
 ghost use Rattle.handheld.specs.Verdict.{mayBegin, mayEnd, comesIn};
 ghost use Rattle.handheld.specs.Judged.{judged};
-ghost use Rattle.judge.specs.Reading.{Posed, verdictOn};
+ghost use Rattle.judge.specs.Posed.{Posed, verdictOn};
 use handheld::Led;
 use handheld::Onward;
 use handheld::Verdict;
 use journey::LegRead;
 use journey::Reading;
 use model::Leg;
-use model::LegType;
 use model::Query;
 use model::TimeConstraint;
-
-pub mod legs; // legs.rt: leg by leg
 
 // The moment before which the first leg may not leave: any, where an arrival is asked for.
 fn soonest(time: TimeConstraint) -> u32
@@ -40,7 +37,10 @@ fn may_begin(time: TimeConstraint, g: Leg) -> bool
     ensures { λ ok. ⌜ ok ≡ mayBegin time g ⌝ }
 {
     match time {
-        TimeConstraint::Departure(_) => legs::is_ride(g.kind),
+        TimeConstraint::Departure(_) => {
+            let kind = g.kind;
+            judge_legs::is_ride(kind)
+        }
         TimeConstraint::Arrival(_) => true,
     }
 }
@@ -67,8 +67,10 @@ fn comes_in(tables: &[u32], q: Query, o: Onward) -> bool
 {
     match o {
         Onward::To(e) => {
-            if may_end(q.time, e) {
-                return judge_paths::places::in_place(tables, q.to, e.stop);
+            let time = q.time;
+            if may_end(time, e) {
+                let to = q.to;
+                return judge_paths::places::in_place(tables, to, e.stop);
             }
             false
         }
@@ -82,16 +84,19 @@ fn is_right_from(tables: &[u32], bytes: &[u8], q: Query, g: Leg) -> bool
     requires { ⌜ legFrom (now bytes) 0 ≡ Whole g ⌝ }
     ensures { λ ok. ⌜ ok ≡ verdictOn (netOf (now (tables .entry))) q (read (now (bytes .entry))) ⌝ }
 {
-    if may_begin(q.time, g) {
-        if judge_paths::places::in_place(tables, q.from, g.from) {
+    let time = q.time;
+    if may_begin(time, g) {
+        let from = q.from;
+        if judge_paths::places::in_place(tables, from, g.from) {
             let start = Led {
                 stop: g.from,
-                moment: soonest(q.time),
+                moment: soonest(time),
                 rides: 0,
                 rode: false,
             };
-            let walking = raptor_query::may_walk(q.walks);
-            let o = legs::follow(tables, bytes, walking, start);
+            let walks = q.walks;
+            let walking = raptor_query::may_walk(walks);
+            let o = judge_legs::follow(tables, bytes, walking, start);
             return comes_in(tables, q, o);
         }
     }

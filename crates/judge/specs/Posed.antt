@@ -9,10 +9,7 @@ use Rattle.model.specs.Bytes.{Read, legs, bad}
 use Rattle.model.specs.Places.{exists}
 use Rattle.repository.specs.Accepted.{Accepted}
 use Rattle.repository.specs.NetOf.{netOf}
-use Rattle.handheld.specs.declared.Led.{Led}
-use Rattle.handheld.specs.declared.Onward.{Onward}
-use Rattle.handheld.specs.declared.Onward.the-variants.{To, Wrong}
-use Rattle.handheld.specs.Verdict.{follow, verdict}
+use Rattle.handheld.specs.Verdict.{verdict}
 
 -- the tables are accepted and have the query's two places
 pub record Posed (w : List ℕ) (q : Query) : Type 0 where
@@ -20,11 +17,7 @@ pub record Posed (w : List ℕ) (q : Query) : Type 0 where
   pub from : exists (netOf w) (q .from) ≡ true
   pub to : exists (netOf w) (q .to) ≡ true
 
--- where legs lead; what is no legs leads nowhere, and is not right
-unfoldable pub followOn : Net → Bool → Read → Led → Onward
-followOn n walking (legs gs) e = follow n walking gs e
-followOn n walking (bad o) e = Wrong
-
+-- what is no legs is not right
 unfoldable pub verdictOn : Net → Query → Read → Bool
 verdictOn n q (legs gs) = verdict n q gs
 verdictOn n q (bad o) = false

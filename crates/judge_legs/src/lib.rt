@@ -8,14 +8,14 @@ ghost use Rattle.repository.specs.NetOf.{netOf};
 ghost use Rattle.handheld.specs.Right.{isRide};
 ghost use Rattle.handheld.specs.Fitting.{fitsLeg};
 ghost use Rattle.handheld.specs.Verdict.{ridesWith, follows as mayFollow, onward as onwardOf};
-ghost use Rattle.judge.specs.Reading.{followOn};
+ghost use Rattle.judge_legs.specs.Reading.{followOn};
 use handheld::Led;
 use handheld::Onward;
 use journey::LegRead;
 use model::Leg;
 use model::LegType;
 
-// As document 01 says: "15 rounds" are at most 15 rides.
+// "with 1 to 15 rides"
 pub const MOST_RIDES: u32 = 15;
 
 // Whether a leg is a ride.
@@ -67,7 +67,8 @@ fn follows(tables: &[u32], walking: bool, g: Leg, e: Led) -> bool
 {
     if g.from == e.stop {
         if e.moment <= g.departure.0 {
-            if rides_with(g.kind, e.rides) <= MOST_RIDES {
+            let kind = g.kind;
+            if rides_with(kind, e.rides) <= MOST_RIDES {
                 return fits_leg(tables, walking, g);
             }
         }
@@ -82,11 +83,12 @@ fn onward(tables: &[u32], walking: bool, g: Leg, e: Led) -> Onward
     ensures { λ o. ⌜ o ≡ onwardOf (netOf (now (tables .entry))) walking g e ⌝ }
 {
     if follows(tables, walking, g, e) {
+        let kind = g.kind;
         return Onward::To(Led {
             stop: g.to,
             moment: g.arrival.0,
-            rides: rides_with(g.kind, e.rides),
-            rode: is_ride(g.kind),
+            rides: rides_with(kind, e.rides),
+            rode: is_ride(kind),
         });
     }
     Onward::Wrong

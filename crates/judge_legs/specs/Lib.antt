@@ -1,0 +1,2 @@
+-- The definitions that the contracts of `judge_legs` cite.
+pub mod Reading
