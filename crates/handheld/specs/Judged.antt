@@ -19,13 +19,9 @@ judgedAs n q (bad o) = Bad o
 unfoldable pub judged : ℕ → Net → Query → List ℕ → Verdict
 judged fault n q b = unless Refused (judgedAs n q (read b)) (lowest fault true n q)
 
--- the number that is given back, and beside it the offset of 13, 1 for yes and 0 for no
-pub record Told : Type 0 where
-  pub number : ℕ
-  pub value : ℕ
-
-unfoldable pub toldOf : Verdict → Told
-toldOf Yes = record { number = 0; value = 1 }
-toldOf No = record { number = 0; value = 0 }
-toldOf (Bad o) = record { number = 13; value = o }
-toldOf (Refused x) = record { number = x; value = 0 }
+-- document 01's number of a verdict; a yes and a no are both 0
+unfoldable pub verdictNumber : Verdict → ℕ
+verdictNumber Yes = 0
+verdictNumber No = 0
+verdictNumber (Bad o) = 13
+verdictNumber (Refused x) = x

@@ -1,7 +1,7 @@
 // Journeys that handhelds send (request 2): what the depot is told of one, and how far its legs have led. What is right stands in specs/, what
 // is promised of it in proofs/; the code that decides it is in `judge`.
 
-// What the depot is told. `givenVerdict` of specs/Judged.antt has the number and the values of each case.
+// What the depot is told. `verdictNumber` of specs/Judged.antt has the number of each case.
 pub enum Verdict {
     // 0: the legs form a journey that the query asks for
     Yes,

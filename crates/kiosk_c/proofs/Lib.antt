@@ -6,3 +6,4 @@ pub mod Unique
 pub mod Found
 pub mod ReadBack
 pub mod Enough
+pub mod Verdicts

@@ -34,7 +34,7 @@ module _ (x : Reading) (told : List ℕ) (h : 1 ≤ length told) {y : Reading} (
   unfolding readNumber readKind
   offset-number e = rw (le-leb 1 (length told) h, sym is ∙ e)
 
-first : (v : ℕ) (l : List ℕ) → 1 ≤ length l → set l 0 v ≡ v ∷ drop 1 l
+pub first : (v : ℕ) (l : List ℕ) → 1 ≤ length l → set l 0 v ≡ v ∷ drop 1 l
 first v (x ∷ l) h = refl
 first v [] h = absurd (omega arith)
 

@@ -1,3 +1,4 @@
 -- The definitions that the contracts of the C face cite.
 pub mod Face
 pub mod Legs
+pub mod Judging

@@ -7,6 +7,7 @@ ghost use Rattle.kiosk_words.specs.Words.{queryOf};
 ghost use Rattle.kiosk_c.specs.Face.{shortNumber, Faced, roomNumber, roomLeft};
 use raptor::Needed;
 
+pub mod judging; // judging.rt: journeys that handhelds send
 pub mod legs; // legs.rt: journey bytes, read
 
 // 0 where the tables are accepted, else the lowest number, 1 to 5, of which they have a fault.
