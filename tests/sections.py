@@ -69,7 +69,7 @@ def in_logic(text):
                     yield offsets[found[0]], token + " .. " + tokens[found[0]]
                 break
             place -= 1
-    for match in re.finditer(r"\b[kK]\b(?: \+ 1)? [<≤] (1[89]|20)\b", text):
+    for match in re.finditer(r"\b[kK]\b(?: \+ 1)? [<≤] (19|2[01])\b", text):
         yield match.start(), match[0]
     for match in re.finditer(r"(?<![\w-])size-\d+", text):
         yield match.start(), match[0]
