@@ -37,7 +37,7 @@ use Rattle.handheld.specs.declared.Verdict.the-variants.{Yes, No, Bad, R
 use Rattle.handheld.specs.Any.{any}
 use Rattle.handheld.specs.Right.{isRide, soonest}
 use Rattle.handheld.specs.Fitting.{leavesAt, comesAt, comesFrom, fitsFrom, fitsTrip, standsAt, fitsRoute, fitsRide, fitsFoot, fitsPath, fitsLeg}
-use Rattle.handheld.specs.Verdict.{isListed, ridesWith, follows, led, onward, follow, mayBegin, mayEnd, atStart, comesIn, verdict}
+use Rattle.handheld.specs.Verdict.{isListed, ridesWith, follows, led, legOn, follow, mayBegin, mayEnd, atStart, comesIn, verdict}
 use Rattle.handheld.specs.Judged.{judgedAs, judged}
 
 -- N1's three legs
@@ -160,5 +160,5 @@ pub verdicts :
     -- D3: the tables' own number before all of them
     ∷ judged 3 N (departing Source 0 5 0) (9 ∷ []) is Refused 3
     ∷ [])
-unfolding departing arriving leaving coming ask N N⁺ X1 X5 X9b X12 X18 W standstill station N1 rides-to-2 ride transfer walk shuttle any isRide soonest leavesAt comesAt comesFrom fitsFrom fitsTrip standsAt fitsRoute fitsRide fitsFoot fitsPath fitsLeg isListed ridesWith follows led onward follow mayBegin mayEnd atStart comesIn verdict judgedAs judged upto gather exists orItself stopsOfStop servedOf stopsOfArea placeStops unserved barren u32 kindByte tripField writeLeg write read readFrom firstLeg uncut legOfBody legAt u32At before legSize mayWalk momentOf refusal lowest unless
+unfolding departing arriving leaving coming ask N N⁺ X1 X5 X9b X12 X18 W standstill station N1 rides-to-2 ride transfer walk shuttle any isRide soonest leavesAt comesAt comesFrom fitsFrom fitsTrip standsAt fitsRoute fitsRide fitsFoot fitsPath fitsLeg isListed ridesWith follows led legOn follow mayBegin mayEnd atStart comesIn verdict judgedAs judged upto gather exists orItself stopsOfStop servedOf stopsOfArea placeStops unserved barren u32 kindByte tripField writeLeg write read readFrom firstLeg uncut legOfBody legAt u32At before legSize mayWalk momentOf refusal lowest unless
 verdicts = (refl, refl)

@@ -41,7 +41,7 @@ use Rattle.handheld.specs.Right.{isRide, soonest}
 use Rattle.handheld.specs.Verdict.{isListed, follow, mayBegin, mayEnd, atStart, comesIn, verdict}
 use Rattle.handheld.specs.Judged.{judgedAs, judged}
 use Rattle.judge_legs.specs.Reading.{followOn}
-use Rattle.judge.specs.Posed.{Posed, verdictOn}
+use Rattle.judge.specs.Places.{HasPlaces, verdictOn}
 
 -- ---- by the time that is asked
 module _ {time : TimeConstraint} {t : Time} (e : time ≡ Departure t) where
@@ -189,7 +189,7 @@ module _ (w : List ℕ) (q : Query) (b : List ℕ) where
       go (suc k) e z = rw (← e)
 
   module _ (ok : Accepted w) {number : ℕ} (e : number ≡ refusal (netOf w) q) where
-    pub posed : number ≡ 0 → Posed w q
+    pub posed : number ≡ 0 → HasPlaces w q
     posed z = let p = passed (netOf w) q (sym e ∙ z) in record { known = ok; from = p .from; to = p .to }
 
     no-fault : checkOf w ≡ 0

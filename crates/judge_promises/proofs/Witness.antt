@@ -25,9 +25,9 @@ use Rattle.raptor.specs.Solved.{sized, Solved}
 use Rattle.handheld.specs.declared.Verdict.{Verdict}
 use Rattle.handheld.specs.declared.Verdict.the-variants.{Yes, No, Bad}
 use Rattle.handheld.specs.Any.{any}
-use Rattle.handheld.specs.Right.{isRide, soonest, Right}
+use Rattle.handheld.specs.Right.{isRide, soonest, Right, Ways}
 use Rattle.handheld.specs.Fitting.{leavesAt, comesAt, comesFrom, fitsFrom, fitsTrip, standsAt, fitsRoute, fitsRide, fitsFoot, fitsPath, fitsLeg}
-use Rattle.handheld.specs.Verdict.{isListed, ridesWith, follows, led, onward, follow, mayBegin, mayEnd, atStart, comesIn, verdict}
+use Rattle.handheld.specs.Verdict.{isListed, ridesWith, follows, led, legOn, follow, mayBegin, mayEnd, atStart, comesIn, verdict}
 use Rattle.handheld.specs.Judged.{judgedAs, judged}
 use Rattle.witnesses.proofs.Computed.{from-0-at-50, N1-legs, to-4-by-450}
 use Rattle.witnesses.proofs.N1.{N1-answer}
@@ -43,7 +43,7 @@ pub N1-told :
     (judged (checkOf N) (netOf N) from-0-at-50 (write N1-legs) ≡ Yes)
     × (judged (checkOf N) (netOf N) from-0-at-50 (take 21 (write N1-legs)) ≡ No)
     × (judged (checkOf N) (netOf N) from-0-at-50 (write N1-legs ++ (9 ∷ [])) ≡ Bad 59)
-unfolding netOf count listOf sec size tab transferRow walkRow stationOf transferSpan walkSpan any isRide soonest leavesAt comesAt comesFrom fitsFrom fitsTrip standsAt fitsRoute fitsRide fitsFoot fitsPath fitsLeg isListed ridesWith follows led onward follow mayBegin mayEnd atStart comesIn verdict judgedAs judged upto gather exists orItself stopsOfStop servedOf stopsOfArea placeStops unserved barren u32 kindByte tripField writeLeg write read readFrom firstLeg uncut legOfBody legAt u32At before legSize mayWalk momentOf refusal lowest unless
+unfolding netOf count listOf sec size tab transferRow walkRow stationOf transferSpan walkSpan any isRide soonest leavesAt comesAt comesFrom fitsFrom fitsTrip standsAt fitsRoute fitsRide fitsFoot fitsPath fitsLeg isListed ridesWith follows led legOn follow mayBegin mayEnd atStart comesIn verdict judgedAs judged upto gather exists orItself stopsOfStop servedOf stopsOfArea placeStops unserved barren u32 kindByte tripField writeLeg write read readFrom firstLeg uncut legOfBody legAt u32At before legSize mayWalk momentOf refusal lowest unless
 N1-told = (by-words (write N1-legs) refl, by-words (take 21 (write N1-legs)) refl, by-words (write N1-legs ++ (9 ∷ [])) refl)
 
 -- so there are legs that are right, legs that are not, and a bad leg (`yes-right`, `no-wrong`, `thirteen-bad`, applied)
@@ -56,14 +56,20 @@ N1-part-wrong = no-wrong N from-0-at-50 (take 21 (write N1-legs)) (N1-told .1) .
 pub N1-bad : BadAt (write N1-legs ++ (9 ∷ [])) 59
 N1-bad = thirteen-bad N from-0-at-50 (write N1-legs ++ (9 ∷ [])) (N1-told .2) .2
 
--- ---- `found-gets-yes`, applied: to N1, and to N9's arrival query
+-- ---- `found-gets-yes`, applied: to N1, and to N9's arrival query, whose footpaths are listed both ways
+pub N1-ways : Ways (netOf N) (mayWalk (from-0-at-50 .walks)) (from-0-at-50 .time)
+N1-ways = tt
+
+pub N9-ways : Ways (netOf N9) (mayWalk (to-4-by-450 .walks)) (to-4-by-450 .time)
+unfolding mayWalk
+N9-ways = N9-both
+
 module _ {before : Lent} {r : Answer} {after : Lent} (h : Solved N from-0-at-50 before r after)
     (roomy : sized (netOf N) before ≡ true) (enough : 59 ≤ length (before .journey)) where
   pub N1-gets-yes : judged (checkOf N) (netOf N) from-0-at-50 (take 59 (after .journey)) ≡ Yes
-  N1-gets-yes = found-gets-yes N from-0-at-50 before h (N1-answer h roomy enough) tt
+  N1-gets-yes = found-gets-yes N from-0-at-50 before h (N1-answer h roomy enough) N1-ways
 
 module _ {before : Lent} {r : Answer} {after : Lent} (h : Solved N9 to-4-by-450 before r after)
     (roomy : sized (netOf N9) before ≡ true) (enough : 59 ≤ length (before .journey)) where
   pub N9-gets-yes : judged (checkOf N9) (netOf N9) to-4-by-450 (take 59 (after .journey)) ≡ Yes
-  unfolding mayWalk
-  N9-gets-yes = found-gets-yes N9 to-4-by-450 before h (N9-answer h roomy enough) N9-both
+  N9-gets-yes = found-gets-yes N9 to-4-by-450 before h (N9-answer h roomy enough) N9-ways
