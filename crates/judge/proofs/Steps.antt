@@ -175,9 +175,6 @@ module _ (n : Net) (q : Query) (b : List ℕ) {r : LegRead} (e : r ≡ legFrom b
       rw (d, read-end)
 
 -- ---- what the depot is told
-pub zero-accepted : {w : List ℕ} {number : ℕ} → number ≡ checkOf w → number ≡ 0 → Accepted w
-zero-accepted {w} e z = (accepted-is w) .0 (sym e ∙ z)
-
 module _ (w : List ℕ) (q : Query) (b : List ℕ) where
   -- a fault of the tables comes first
   pub by-tables : {number : ℕ} → number ≡ checkOf w → number ≢ 0 → Refused number ≡ judged (checkOf w) (netOf w) q b

@@ -1,6 +1,6 @@
 -- `telling::meant::print_meant`: what the check answers with 0 is accepted.
 use borrow.Author.Needs.{needs}
-use Rattle.raptor.proofs.Lengths.{zero-accepted}
+use Rattle.check_tables.proofs.Whole.{zero-accepted}
 use Rattle.telling.proofs.meant.print_meant.Statement.{statement}
 use Rattle.telling.proofs.meant.print_meant.Tie as tie
 

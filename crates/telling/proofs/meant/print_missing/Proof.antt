@@ -1,6 +1,6 @@
 -- `telling::meant::print_missing`: what the check answers with 0 is accepted.
 use borrow.Author.Needs.{needs}
-use Rattle.raptor.proofs.Lengths.{zero-accepted}
+use Rattle.check_tables.proofs.Whole.{zero-accepted}
 use Rattle.telling.proofs.meant.print_missing.Statement.{statement}
 use Rattle.telling.proofs.meant.print_missing.Tie as tie
 
