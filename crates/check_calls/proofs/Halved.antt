@@ -6,7 +6,7 @@ use mathlib.Core.List.{List}
 use native.Mathlib.Omega.{arith}
 use lib.Dec.{leb, ltb}
 use borrow.Author.Tests.{ltb-true, ltb-false, leb-true, leb-false, le-leb, lt-leb, eqb-true}
-use Rattle.base.proofs.Choice.{split, and-left}
+use Rattle.base.proofs.Choice.{split, same-test, and-left}
 use Rattle.base.proofs.All.{all-at}
 use Rattle.base.specs.Halving.{Rising, Bracket}
 use Rattle.repository.specs.Sections.{size, sec, stops, routes, rows, CALL-STARTS, CALLS, ROUTE-STOP-STARTS}
@@ -16,7 +16,7 @@ use Rattle.repository.specs.Laid.{Laid}
 use Rattle.repository.specs.Listed.{some, routeStops, later, ascending, callsRise, calls, called}
 use Rattle.repository.specs.Entries.{Entry}
 use Rattle.check_calls.specs.Reached.{reached}
-use Rattle.check_calls.proofs.Ranges.{both-ways, some-shown, some-so}
+use Rattle.check_calls.proofs.Ranges.{some-shown, some-so}
 use Rattle.repository.proofs.Rooms.{starts-top}
 use Rattle.check_calls.proofs.Facts.{index-shown}
 use Rattle.repository.proofs.Leaves.{stop-word-in}
@@ -137,7 +137,7 @@ module _ {w : List ℕ} {r p s : ℕ} (l : Laid w) (t : routeStops w ≡ true) (
 
         pub called-there : {ok : Bool} → i < n → ok ≡ calls w r p (a + i) → ok ≡ called w r p
         called-there {ok} h is =
-            both-ways ok (called w r p)
+            same-test ok (called w r p)
             (λ e.
             rows-is
             ∙ some-so (calls w r p) a (a + n)

@@ -5,16 +5,10 @@ use mathlib.Core.Bool.{Bool, true, false, cond, not, _||_, or-true, true≢false
 use native.Mathlib.Omega.{arith}
 use lib.Dec.{eqb}
 use borrow.Author.Tests.{eqb-true, eqb-false}
-use Rattle.base.proofs.Choice.{split}
+use Rattle.base.proofs.Choice.{split, same-test}
 use Rattle.base.specs.All.{all, every}
 use Rattle.base.proofs.All.{all-at}
 use Rattle.repository.specs.Listed.{fails, some}
-
--- two tests that pass together are the same
-pub both-ways : (x y : Bool) → (x ≡ true → y ≡ true) → (y ≡ true → x ≡ true) → x ≡ y
-both-ways true y f g = sym (f refl)
-both-ways false true f g = g refl
-both-ways false false f g = refl
 
 -- a number of the range that passes
 pub record Some (f : ℕ → Bool) (a b : ℕ) : Type 0 where
@@ -69,7 +63,7 @@ some-none f a b h = let c : b - a ≡ 0 = omega arith in rw c
 
 -- one number more
 pub some-more : (f : ℕ → Bool) (a i : ℕ) → a ≤ i → some f a (i + 1) ≡ some f a i || f i
-some-more f a i h = both-ways _ _ there back
+some-more f a i h = same-test _ _ there back
   where
     there : some f a (i + 1) ≡ true → some f a i || f i ≡ true
     there e =

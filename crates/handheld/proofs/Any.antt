@@ -36,13 +36,6 @@ module _ {A : Type 0} (f : A → Bool) where
   any-is (List·Memᴰ·head {x = x} {xs = l} p) e = any-now x l (sym (ap f p) ∙ e)
   any-is (List·Memᴰ·tail {x = x} {xs = l} m) e = split (f x) (λ t. any-now x l t) (λ t. any-on x l t ∙ any-is m e)
 
--- two tests that pass together
-pub same-test : {a b : Bool} → (a ≡ true → b ≡ true) → (b ≡ true → a ≡ true) → a ≡ b
-same-test {a} {b} h g =
-    split a
-    (λ t. t ∙ sym (h t))
-    (λ t. split b (λ u. absurd (false≢true (sym t ∙ g u))) (λ u. t ∙ sym u))
-
 -- ---- the loop
 module _ {A : Type 0} {f : A → Bool} {goal : Bool} where
   pub sought-next : {a : A} {l k : List A} → Sought f goal l → l ≡ a ∷ k → f a ≡ false → Sought f goal k

@@ -7,7 +7,7 @@ use mathlib.Core.Logic.{_≢_}
 use native.Mathlib.Omega.{arith}
 use lib.Dec.{eqb}
 use lib.ListN.{length, getD, drop, drop-of-length-le}
-use borrow.Author.Tests.{ltb-true, eqb-true, eq-eqb, ne-eqb}
+use borrow.Author.Tests.{eqb-true, eq-eqb, ne-eqb}
 use Rattle.base.proofs.Below.{left-at}
 use Rattle.base.proofs.Choice.{split}
 use Rattle.base.proofs.Each.{each-mem}
@@ -15,7 +15,7 @@ use Rattle.model.specs.declared.Location.{Location}
 use Rattle.model.specs.declared.Location.the-variants.{Stop, Area}
 use Rattle.model.specs.Lists.{gather}
 use Rattle.model.specs.Tables.{Net}
-use Rattle.model.specs.Places.{exists, servedOf, stopsOfArea, placeStops}
+use Rattle.model.specs.Places.{servedOf, stopsOfArea, placeStops}
 use Rattle.repository.specs.Accepted.{Accepted}
 use Rattle.repository.specs.NetOf.{netOf}
 use Rattle.repository.proofs.Areas.{area-known}
@@ -154,15 +154,6 @@ area-beyond {w} {a} {s} ok h e l =
     (λ t. sym t)
 
 -- ---- a place is a stop or an area
-module _ (n : Net) {l : Location} (there : exists n l ≡ true) where
-  pub stop-there : {t : ℕ} → l ≡ Stop t → t < n .stops
-  unfolding exists
-  stop-there {t} e = ltb-true t (n .stops) (rw e at there)
-
-  pub area-there : {a : ℕ} → l ≡ Area a → a < n .areas
-  unfolding exists
-  area-there {a} e = ltb-true a (n .areas) (rw e at there)
-
 module _ (n : Net) (s : ℕ) {l : Location} {x : Bool} where
   pub at-stop : {t : ℕ} {q : List ℕ} → l ≡ Stop t → q ≡ placeStops n (Stop t) → x ≡ isListed s q → x ≡ isListed s (placeStops n l)
   at-stop e f g = g ∙ ap (isListed s) (f ∙ ap (placeStops n) (sym e))

@@ -8,7 +8,7 @@ use native.Mathlib.Omega.{arith}
 use native.Mathlib.Numerals.{add-one}
 use lib.Dec.{eqb}
 use borrow.Author.Tests.{eq-eqb, ne-eqb}
-use Rattle.base.proofs.Choice.{split, and-left, and-right}
+use Rattle.base.proofs.Choice.{split, same-test, and-left, and-right}
 use Rattle.model.specs.declared.Leg.{Leg}
 use Rattle.model.specs.Lists.{upto}
 use Rattle.model.specs.Tables.{Net}
@@ -22,7 +22,7 @@ use Rattle.repository.proofs.Trips.{trip-known, stands}
 use Rattle.repository.proofs.Standing.{standing-in, standing-trip-of, standing-only}
 use Rattle.handheld.specs.Any.{any, Sought}
 use Rattle.handheld.specs.Fitting.{leavesAt, comesAt, comesFrom, fitsFrom, fitsTrip, fitsRide}
-use Rattle.handheld.proofs.Any.{any-at, any-is, same-test, sought-next, upto-step, upto-in, upto-has}
+use Rattle.handheld.proofs.Any.{any-at, any-is, sought-next, upto-step, upto-in, upto-has}
 use Rattle.handheld.proofs.Legs.{both, comes-sound, comes-complete, ride-at, ride-is}
 use Rattle.judge_rides.specs.Ridable.{Ridable, RidableAt}
 
@@ -85,7 +85,7 @@ module _ (n : Net) (r v : ℕ) (g : Leg) {len : ℕ} (e : len ≡ n .positions r
     -- a later position from which it may leave has no place to come to that this one has not
     pub trip-here : {y : Bool} → x ≡ true → y ≡ comesFrom n r v g (b + 1) → y ≡ fitsTrip n r v g
     unfolding fitsFrom
-    trip-here t q = q ∙ ap (comesFrom n r v g) (add-one b) ∙ same-test on back ∙ h .rest
+    trip-here t q = q ∙ ap (comesFrom n r v g) (add-one b) ∙ same-test _ _ on back ∙ h .rest
       where
         on : comesFrom n r v g (suc b) ≡ true → any (fitsFrom n r v g) (upto (len - b) b) ≡ true
         on c = any-is (fitsFrom n r v g) (upto-has (len - b) b b (omega arith) (omega arith)) (both (sym f ∙ t) c)
@@ -99,7 +99,7 @@ module _ (n : Net) (r v : ℕ) (g : Leg) {len : ℕ} (e : len ≡ n .positions r
 -- ---- the route that a trip stands in is the only one
 module _ {w : List ℕ} (ok : Accepted w) (v : ℕ) (g : Leg) {count : ℕ} (e : count ≡ tripCount w) where
   pub ride-here : {r : ℕ} {x : Bool} → v < count → r ≡ routeOfTrip w v → x ≡ fitsTrip (netOf w) r v g → x ≡ fitsRide (netOf w) v g
-  ride-here {r} l f q = q ∙ same-test on back
+  ride-here {r} l f q = q ∙ same-test _ _ on back
     where
       in-range : v < tripCount w
       in-range = rw e at l

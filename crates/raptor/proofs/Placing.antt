@@ -26,7 +26,7 @@ use Rattle.repository.proofs.Sound.{accepted-sound-places}
 use Rattle.repository.proofs.Ranges.{stops-few}
 use Rattle.repository.proofs.Areas.{area-fits}
 use Rattle.raptor_query.specs.Areas.{areaPart}
-use Rattle.raptor_query.proofs.Places.{area-there}
+use Rattle.model.proofs.Asking.{area-there}
 use Rattle.raptor_rounds.specs.declared.Ask.{Ask}
 use Rattle.base.specs.Below.{Below}
 use Rattle.raptor.proofs.Searched.{posed-accepted, posed-stops}

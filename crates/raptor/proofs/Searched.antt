@@ -23,7 +23,7 @@ use Rattle.repository.specs.Accepted.{Accepted}
 use Rattle.repository.specs.NetOf.{netOf}
 use Rattle.repository.proofs.Asked.{accepted-searchable}
 use Rattle.raptor_query.specs.Areas.{areaPart}
-use Rattle.raptor_query.proofs.Places.{stop-there}
+use Rattle.model.proofs.Asking.{stop-there}
 use Rattle.raptor_query.specs.Directed.{directionOf}
 use Rattle.raptor_rounds.specs.declared.Ask.{Ask}
 use Rattle.base.specs.Below.{Below}

@@ -7,7 +7,7 @@ use native.Mathlib.Omega.{arith}
 use lib.Dec.{ltb, eqb}
 use lib.ListN.{length, take, drop, replicate, length-append, length-drop, drop-of-length-le}
 use lib.Seq.{take-at, drop-drop, length-take-le}
-use borrow.Author.Tests.{ltb-true, ne-eqb}
+use borrow.Author.Tests.{ne-eqb}
 use borrow.Rule.Slice.PartMut.{midOf, putMid, mid-len}
 use Rattle.model.specs.declared.Location.{Location}
 use Rattle.model.specs.declared.Location.the-variants.{Stop, Area}
@@ -58,14 +58,6 @@ module _ (n : Net) {l : Location} where
   pub area-exists : {a areas : ℕ} → l ≡ Area a → areas ≡ n .areas → ltb a areas ≡ exists n l
   unfolding exists
   area-exists e f = rw (e, f)
-
-  pub stop-there : {s : ℕ} → l ≡ Stop s → exists n l ≡ true → s < n .stops
-  unfolding exists
-  stop-there {s} e h = ltb-true s (n .stops) (rw e at h)
-
-  pub area-there : {a : ℕ} → l ≡ Area a → exists n l ≡ true → a < n .areas
-  unfolding exists
-  area-there {a} e h = ltb-true a (n .areas) (rw e at h)
 
   pub stop-not-barren : {s : ℕ} → l ≡ Stop s → false ≡ barren n l
   unfolding barren

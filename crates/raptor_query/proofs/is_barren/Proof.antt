@@ -1,6 +1,7 @@
 -- `raptor_query::is_barren` meets its contract: an area is barren where it has no served stop.
 use borrow.Author.Needs.{needs}
-use Rattle.raptor_query.proofs.Places.{stop-not-barren, area-barren, area-there}
+use Rattle.model.proofs.Asking.{area-there}
+use Rattle.raptor_query.proofs.Places.{stop-not-barren, area-barren}
 use Rattle.raptor_query.proofs.is_barren.Statement.{statement}
 use Rattle.raptor_query.proofs.is_barren.Tie as tie
 

@@ -1,6 +1,7 @@
 -- `raptor_query::write_place` meets its contract: the stops of an area, or zeros.
 use borrow.Author.Needs.{needs}
-use Rattle.raptor_query.proofs.Places.{stop-written, stop-none, area-written, area-all, area-there}
+use Rattle.model.proofs.Asking.{area-there}
+use Rattle.raptor_query.proofs.Places.{stop-written, stop-none, area-written, area-all}
 use Rattle.raptor_query.proofs.write_place.Statement.{statement}
 use Rattle.raptor_query.proofs.write_place.Tie as tie
 

@@ -1,6 +1,7 @@
 -- `in_place`: of a stop or of an area.
 use borrow.Author.Needs.{needs}
-use Rattle.judge_paths.proofs.Listed.{stop-there, area-there, at-stop, at-area}
+use Rattle.model.proofs.Asking.{stop-there, area-there}
+use Rattle.judge_paths.proofs.Listed.{at-stop, at-area}
 use Rattle.judge_paths.proofs.places.in_place.Statement.{statement}
 use Rattle.judge_paths.proofs.places.in_place.Tie as tie
 
