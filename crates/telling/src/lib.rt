@@ -9,6 +9,7 @@ use model::Leg;
 use model::LegType;
 use model::Query;
 use model::TimeConstraint;
+use questions::Question;
 use shared::Time;
 ghost use Prim.Native.Nat.{_≤_};
 
@@ -177,9 +178,8 @@ fn print_outside(midnight: u32) {
     print::text(b"\n");
 }
 
-// What a refusal means, in document 01's words.
-fn print_refusal(tables: &[u32], path: &[u8], number: u32, q: Query, midnight: u32) {
-    print::number(number as u64);
+// What the number of a refusal means, in document 01's words, and the line's end.
+pub fn print_meaning(tables: &[u32], path: &[u8], number: u32, q: Query, midnight: u32) {
     match number {
         6 => print::text(b": a workspace slice of wrong length\n"),
         7 => {
@@ -195,6 +195,11 @@ fn print_refusal(tables: &[u32], path: &[u8], number: u32, q: Query, midnight: u
     }
 }
 
+fn print_refusal(tables: &[u32], path: &[u8], number: u32, q: Query, midnight: u32) {
+    print::number(number as u64);
+    print_meaning(tables, path, number, q, midnight);
+}
+
 // 10, and what no journey is.
 fn print_no_route(time: TimeConstraint) {
     match time {
@@ -207,8 +212,39 @@ fn print_no_route(time: TimeConstraint) {
     }
 }
 
-// The answer to q; the journey stands in `journey`, the tables are those of the file at `path`.
-pub fn tell(tables: &[u32], path: &[u8], journey: &[u8], told: Told, q: Query, midnight: u32) {
+// The journey's bytes, where the answer is one: the buffer's first `length`. Whether it is.
+fn print_bytes(journey: &[u8], told: Told) -> bool {
+    let Told::Answer(a) = told else {
+        return false;
+    };
+    let Answer::Found {
+        time: _,
+        stop: _,
+        round: _,
+        length,
+    } = a else {
+        return false;
+    };
+    if journey.len() < length {
+        return false;
+    }
+    print::text(&journey[..length]);
+    true
+}
+
+// The answer to q; the journey stands in `journey`, and is written as it stands there where `bytes` are asked for.
+pub fn tell_asked(tables: &[u32], path: &[u8], journey: &[u8], told: Told, asked: Question) {
+    let q = asked.query;
+    if asked.bytes {
+        if print_bytes(journey, told) {
+            return;
+        }
+    }
+    tell(tables, path, journey, told, q, asked.midnight);
+}
+
+// The answer to q in words; the tables are those of the file at `path`.
+fn tell(tables: &[u32], path: &[u8], journey: &[u8], told: Told, q: Query, midnight: u32) {
     let time = q.time;
     let Told::Answer(a) = told else {
         print::text(

@@ -1,10 +1,10 @@
--- `showlegs::read_input` ends: each turn takes a byte at least.
+-- `input::read_input` ends: each turn takes a byte at least.
 use borrow.Author.Needs.{needs}
 use Prim.Native.Nat.{_-_}
 use lib.ListN.{length}
 use mathlib.Core.Path.{_≡_}
-use Rattle.showlegs.proofs.read_input.Statement.{statement}
-use Rattle.showlegs.proofs.read_input.Tie as tie
+use Rattle.input.proofs.read_input.Statement.{statement}
+use Rattle.input.proofs.read_input.Tie as tie
 
 abbrev Inv-loop : tie.InvT-loop
 Inv-loop bytes₀ n₀ bytes n = length bytes ≡ length bytes₀
