@@ -22,14 +22,16 @@ fn tell(tables: &[u32], path: &[u8], bytes: &[u8], asked: Question)
     let shown = io::count(n as isize, &text);
     print::text(&text[..shown]);
     if let Verdict::Refused(number) = v {
-        telling::print_meaning(tables, path, number, q, asked.midnight);
+        refusing::print_meaning(tables, path, number, q, asked.midnight);
     }
 }
 
 // The verdict on the first n bytes, unless they are too many.
 fn tell_first(tables: &[u32], path: &[u8], bytes: &[u8], n: usize, asked: Question) {
     if 32768 < n {
-        print::text(b"the input has more than 32768 bytes, and this program has no room for more: link the library (see README)\n");
+        print::text(
+            b"the input has more than 32768 bytes, and this program has no room for more: link the library (see README)\n",
+        );
         return;
     }
     if bytes.len() < n {
@@ -78,7 +80,9 @@ fn tell_asked(buffer: &mut [u8], asked: Question) {
 }
 
 fn print_usage() {
-    print::text(b"usage: checkjourney FROM TO depart|arrive MOMENT [walks:yes|walks:no] [tables:FILE] ");
+    print::text(
+        b"usage: checkjourney FROM TO depart|arrive MOMENT [walks:yes|walks:no] [tables:FILE] ",
+    );
     print::text(b"[midnight:SECONDS] [mode:source|mode:rescan] [bytes]\n");
 }
 

@@ -45,7 +45,9 @@ fn answer_asked(buffer: &mut [u8], asked: Question) {
 }
 
 fn print_usage() {
-    print::text(b"usage: kiosk FROM TO depart|arrive MOMENT [walks:yes|walks:no] [mode:source|mode:rescan] ");
+    print::text(
+        b"usage: kiosk FROM TO depart|arrive MOMENT [walks:yes|walks:no] [mode:source|mode:rescan] ",
+    );
     print::text(b"[tables:FILE] [midnight:SECONDS] [bytes]\n");
 }
 

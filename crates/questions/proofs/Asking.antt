@@ -84,11 +84,11 @@ module _ {d : Direction} (t : ℕ) where
 module _ (from to : Location) (o : Options) where
   pub asks-it : (c : TimeConstraint) {w : Walks} {m : Mode} → w ≡ walksFor (o .walks) → m ≡ modeFor (o .mode)
       → record {
-          query = record { from = from; to = to; time = c; walks = w; mode = m };
-          file = o .file;
-          midnight = o .midnight;
-          bytes = o .bytes;
-        }
+        query = record { from = from; to = to; time = c; walks = w; mode = m };
+        file = o .file;
+        midnight = o .midnight;
+        bytes = o .bytes;
+      }
       ≡ asks from to c o
   unfolding asks
   asks-it c e f = rw (← e, ← f)

@@ -1,7 +1,7 @@
 -- `checkjourney::tell_first`: the bytes are a part of the buffer.
 use borrow.Author.Needs.{needs}
 use Rattle.checkjourney.proofs.Parts.{part-few}
-use Rattle.asking.proofs.Parts.{part-long}
+use Rattle.refusing.proofs.Parts.{part-long}
 use Rattle.checkjourney.proofs.tell_first.Statement.{statement}
 use Rattle.checkjourney.proofs.tell_first.Tie as tie
 

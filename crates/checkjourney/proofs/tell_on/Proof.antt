@@ -1,6 +1,6 @@
 -- `checkjourney::tell_on`: the words and the name are parts of their buffers.
 use borrow.Author.Needs.{needs}
-use Rattle.asking.proofs.Parts.{part-long}
+use Rattle.refusing.proofs.Parts.{part-long}
 use Rattle.checkjourney.proofs.tell_on.Statement.{statement}
 use Rattle.checkjourney.proofs.tell_on.Tie as tie
 

@@ -1,8 +1,8 @@
--- `telling::meant::print_missing`: what the check answers with 0 is accepted.
+-- `refusing::meant::print_missing`: what the check answers with 0 is accepted.
 use borrow.Author.Needs.{needs}
-use Rattle.raptor.proofs.Lengths.{zero-accepted}
-use Rattle.telling.proofs.meant.print_missing.Statement.{statement}
-use Rattle.telling.proofs.meant.print_missing.Tie as tie
+use Rattle.refusing.proofs.Tables.{zero-accepted}
+use Rattle.refusing.proofs.meant.print_missing.Statement.{statement}
+use Rattle.refusing.proofs.meant.print_missing.Tie as tie
 
 check-requires : tie.Need-check-requires
 check-requires c κs = search needs

@@ -1,9 +1,9 @@
--- `telling::meant::print_list` ends.
+-- `refusing::meant::print_list` ends.
 use borrow.Author.Needs.{needs}
 use lib.ListN.{length}
 use Prim.Native.Nat.{_-_}
-use Rattle.telling.proofs.meant.print_list.Statement.{statement}
-use Rattle.telling.proofs.meant.print_list.Tie as tie
+use Rattle.refusing.proofs.meant.print_list.Statement.{statement}
+use Rattle.refusing.proofs.meant.print_list.Tie as tie
 
 abbrev Inv-loop : tie.InvT-loop
 Inv-loop stops i₀ i = Unit {0}

@@ -121,7 +121,7 @@ fn print_place(tables: &[u32], name: &[u8], l: Location)
 pub fn print_meant(tables: &[u32], q: Query) {
     let from = q.from;
     let to = q.to;
-    if raptor::check(tables) == 0 {
+    if check_tables::check(tables) == 0 {
         print_place(tables, b"From", from);
         print_place(tables, b"To", to);
     }
@@ -187,7 +187,7 @@ fn exists(tables: &[u32], name: &[u8], l: Location) -> bool
 pub fn print_missing(tables: &[u32], q: Query) {
     let from = q.from;
     let to = q.to;
-    if raptor::check(tables) == 0 {
+    if check_tables::check(tables) == 0 {
         if exists(tables, b"FROM", from) {
             exists(tables, b"TO", to);
         }

@@ -1,9 +1,8 @@
--- `telling::meant::print_area_in`: the stops of the area are a part of the places.
+-- `refusing::meant::print_area_in`: the stops of the area are a part of the places.
 use borrow.Author.Needs.{needs}
-use Rattle.telling.proofs.Parts.{part-has}
-use Rattle.asking.proofs.Parts.{part-long}
-use Rattle.telling.proofs.meant.print_area_in.Statement.{statement}
-use Rattle.telling.proofs.meant.print_area_in.Tie as tie
+use Rattle.refusing.proofs.Parts.{part-long, part-has}
+use Rattle.refusing.proofs.meant.print_area_in.Statement.{statement}
+use Rattle.refusing.proofs.meant.print_area_in.Tie as tie
 
 stop-count-requires : tie.Need-stop-count-requires
 stop-count-requires c κs = search needs

@@ -1,0 +1,3 @@
+-- Laws on a part of a slice, and on tables that are accepted.
+pub mod Parts
+pub mod Tables
