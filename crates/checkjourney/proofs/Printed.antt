@@ -19,7 +19,7 @@ use Rattle.handheld.specs.declared.Verdict.{Verdict}
 use Rattle.handheld.specs.declared.Verdict.the-variants.{Yes, No, Bad, Refused}
 use Rattle.handheld.specs.Verdict.{verdict}
 use Rattle.handheld.specs.Judged.{judgedAs, judged}
-use Rattle.checkjourney.specs.Printed.{badLine, lineOf, Printable}
+use Rattle.checkjourney.specs.Printed.{badLine, verdictLine, Printable}
 
 -- ---- stores one behind the other
 module _ (b : List ℕ) (h : 16 ≤ length b) where
@@ -62,20 +62,20 @@ bad-put o b {x} {y} {e} h f g q l =
 
 -- ---- the four verdicts
 module _ {v : Verdict} where
-  pub yes-long : v ≡ Yes → 4 ≡ length (lineOf v)
-  unfolding lineOf
+  pub yes-long : v ≡ Yes → 4 ≡ length (verdictLine v)
+  unfolding verdictLine
   yes-long e = rw e
 
-  pub yes-put : (b : List ℕ) {x : List ℕ} → v ≡ Yes → x ≡ withBytes b 0 (121 ∷ 101 ∷ 115 ∷ 10 ∷ []) → x ≡ withBytes b 0 (lineOf v)
-  unfolding lineOf
+  pub yes-put : (b : List ℕ) {x : List ℕ} → v ≡ Yes → x ≡ withBytes b 0 (121 ∷ 101 ∷ 115 ∷ 10 ∷ []) → x ≡ withBytes b 0 (verdictLine v)
+  unfolding verdictLine
   yes-put b e f = rw e f
 
-  pub no-long : v ≡ No → 3 ≡ length (lineOf v)
-  unfolding lineOf
+  pub no-long : v ≡ No → 3 ≡ length (verdictLine v)
+  unfolding verdictLine
   no-long e = rw e
 
-  pub no-put : (b : List ℕ) {x : List ℕ} → v ≡ No → x ≡ withBytes b 0 (110 ∷ 111 ∷ 10 ∷ []) → x ≡ withBytes b 0 (lineOf v)
-  unfolding lineOf
+  pub no-put : (b : List ℕ) {x : List ℕ} → v ≡ No → x ≡ withBytes b 0 (110 ∷ 111 ∷ 10 ∷ []) → x ≡ withBytes b 0 (verdictLine v)
+  unfolding verdictLine
   no-put b e f = rw e f
 
   module _ {o : ℕ} (e : v ≡ Bad o) where
@@ -83,21 +83,21 @@ module _ {v : Verdict} where
     unfolding Printable
     offset-small p = let l : o ≤ 4_294_967_295 = rw e at p in omega arith
 
-    pub bad-long : {n : ℕ} → n ≡ length (badLine o) → n ≡ length (lineOf v)
-    unfolding lineOf
+    pub bad-long : {n : ℕ} → n ≡ length (badLine o) → n ≡ length (verdictLine v)
+    unfolding verdictLine
     bad-long f = rw e f
 
-    pub bad-line : (b : List ℕ) {x : List ℕ} → x ≡ withBytes b 0 (badLine o) → x ≡ withBytes b 0 (lineOf v)
-    unfolding lineOf
+    pub bad-line : (b : List ℕ) {x : List ℕ} → x ≡ withBytes b 0 (badLine o) → x ≡ withBytes b 0 (verdictLine v)
+    unfolding verdictLine
     bad-line b f = rw e f
 
   module _ {k : ℕ} (e : v ≡ Refused k) where
-    pub number-long : {n : ℕ} → n ≡ 0 + length (digits k) → n ≡ length (lineOf v)
-    unfolding lineOf
+    pub number-long : {n : ℕ} → n ≡ 0 + length (digits k) → n ≡ length (verdictLine v)
+    unfolding verdictLine
     number-long f = rw e (f ∙ omega arith)
 
-    pub number-line : (b : List ℕ) {x : List ℕ} → x ≡ withBytes b 0 (digits k) → x ≡ withBytes b 0 (lineOf v)
-    unfolding lineOf
+    pub number-line : (b : List ℕ) {x : List ℕ} → x ≡ withBytes b 0 (digits k) → x ≡ withBytes b 0 (verdictLine v)
+    unfolding verdictLine
     number-line b f = rw e f
 
 -- ---- what is judged has a line

@@ -10,11 +10,11 @@ unfoldable pub badLine : ℕ → List ℕ
 badLine o = (98 ∷ 97 ∷ 100 ∷ 32 ∷ []) ++ (digits o ++ (10 ∷ []))
 
 -- in ASCII; 10 ends a line. Behind a refusal's number stands what it means, and then the line ends
-unfoldable pub lineOf : Verdict → List ℕ
-lineOf Yes = 121 ∷ 101 ∷ 115 ∷ 10 ∷ []
-lineOf No = 110 ∷ 111 ∷ 10 ∷ []
-lineOf (Bad o) = badLine o
-lineOf (Refused x) = digits x
+unfoldable pub verdictLine : Verdict → List ℕ
+verdictLine Yes = 121 ∷ 101 ∷ 115 ∷ 10 ∷ []
+verdictLine No = 110 ∷ 111 ∷ 10 ∷ []
+verdictLine (Bad o) = badLine o
+verdictLine (Refused x) = digits x
 
 -- the offset is one of bytes that a program could hold
 unfoldable pub Printable : Verdict → Type 0

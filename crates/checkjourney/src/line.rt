@@ -6,7 +6,7 @@ ghost use Prim.Native.Nat.{_+_, _≤_};
 ghost use lib.ListN.{length};
 ghost use Rattle.base.specs.Put.{withBytes};
 ghost use Rattle.numbers.specs.Decimal.{digits};
-ghost use Rattle.checkjourney.specs.Printed.{Printable, badLine, lineOf};
+ghost use Rattle.checkjourney.specs.Printed.{Printable, badLine, verdictLine};
 
 // `no` and the line's end.
 fn write_no(out: &mut [u8])
@@ -56,9 +56,9 @@ fn write_bad(out: &mut [u8], offset: u32) -> usize
 pub fn write_line(v: Verdict, out: &mut [u8]) -> usize
     requires { ⌜ 16 ≤ length (now out) ⌝ }
     requires { ⌜ Printable v ⌝ }
-    ensures { λ n. ⌜ n ≡ length (lineOf v) ⌝ }
+    ensures { λ n. ⌜ n ≡ length (verdictLine v) ⌝ }
     ensures { λ n. ⌜ n ≤ 16 ⌝ }
-    ensures { λ _. ⌜ now (out .exit) ≡ withBytes (now (out .entry)) 0 (lineOf v) ⌝ }
+    ensures { λ _. ⌜ now (out .exit) ≡ withBytes (now (out .entry)) 0 (verdictLine v) ⌝ }
 {
     match v {
         Verdict::Yes => {

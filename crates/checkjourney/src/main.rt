@@ -1,5 +1,5 @@
-// Says whether the journey bytes on standard input are a journey that the query asks for: `yes` or `no`; `bad` and the offset of the bad leg's
-// first byte, where they are no legs; or the number of a refusal and what it means. The buffers of the program take 59 KiB in all.
+// Says whether the journey bytes on standard input are a journey that the query asks for: `yes` or `no`; `bad` and the offset of the bad
+// leg's first byte, where they are no legs; or the number of a refusal and what it means. The buffers of the program take 59 KiB in all.
 mod line; // line.rt: the line that is printed of a verdict
 
 use handheld::Verdict;

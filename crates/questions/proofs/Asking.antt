@@ -27,7 +27,7 @@ use Rattle.questions.specs.declared.Constraint.the-variants.{At as atTim
 use Rattle.questions.specs.declared.Question.{Question}
 use Rattle.questions.specs.declared.Asked.{Asked}
 use Rattle.questions.specs.declared.Asked.the-variants.{Question as asked, Bad as BadAsked}
-use Rattle.questions.specs.Asking.{spotOf, departWord, arriveWord, directionSaid, walksFor, modeFor, timeAt, asks, asksAt, askedFor}
+use Rattle.questions.specs.Asking.{spotOf, departWord, arriveWord, directionSaid, walksFor, modeFor, timeFor, asks, asksAt, askedFor}
 
 pub spot-stop : {p : Place} {n : ℕ} → p ≡ Stop n → At (stop n) ≡ spotOf p
 unfolding spotOf
@@ -73,12 +73,12 @@ module _ (said : ℕ) where
   mode-source h = rw (ne-eqb said 2 h)
 
 module _ {d : Direction} (t : ℕ) where
-  pub time-departs : d ≡ Departure → atTime (departure (record { 0 = t })) ≡ timeAt d t
-  unfolding timeAt
+  pub time-departs : d ≡ Departure → atTime (departure (record { 0 = t })) ≡ timeFor d t
+  unfolding timeFor
   time-departs e = rw e
 
-  pub time-arrives : d ≡ Arrival → atTime (arrival (record { 0 = t })) ≡ timeAt d t
-  unfolding timeAt
+  pub time-arrives : d ≡ Arrival → atTime (arrival (record { 0 = t })) ≡ timeFor d t
+  unfolding timeFor
   time-arrives e = rw e
 
 module _ (from to : Location) (o : Options) where
@@ -93,17 +93,17 @@ module _ (from to : Location) (o : Options) where
   unfolding asks
   asks-it c e f = rw (← e, ← f)
 
-  module _ (d : Direction) (t : ℕ) {x : Constraint} (e : x ≡ timeAt d t) where
-    pub asks-then : {c : TimeConstraint} {r : Question} → x ≡ atTime c → r ≡ asks from to c o → asked r ≡ asksAt from to (timeAt d t) o
+  module _ (d : Direction) (t : ℕ) {x : Constraint} (e : x ≡ timeFor d t) where
+    pub asks-then : {c : TimeConstraint} {r : Question} → x ≡ atTime c → r ≡ asks from to c o → asked r ≡ asksAt from to (timeFor d t) o
     unfolding asksAt
     asks-then f g = rw (← e, f, g)
 
-    pub asks-never : x ≡ BadTime → BadAsked ≡ asksAt from to (timeAt d t) o
+    pub asks-never : x ≡ BadTime → BadAsked ≡ asksAt from to (timeFor d t) o
     unfolding asksAt
     asks-never f = rw (← e, f)
 
   module _ (d : Direction) {x y : Moment} (e : x ≡ y) where
-    pub asked-then : {t : ℕ} {r : Asked} → x ≡ atMoment t → r ≡ asksAt from to (timeAt d t) o → r ≡ askedFor from to d y o
+    pub asked-then : {t : ℕ} {r : Asked} → x ≡ atMoment t → r ≡ asksAt from to (timeFor d t) o → r ≡ askedFor from to d y o
     unfolding askedFor
     asked-then f g = rw (← e, f) g
 

@@ -52,10 +52,10 @@ unfoldable pub modeFor : ℕ → Mode
 modeFor said = cond (eqb said 2) Rescan Source
 
 -- "an earliest departure or a latest arrival"
-unfoldable pub timeAt : Direction → ℕ → Constraint
-timeAt Departure t = atTime (departure (record { 0 = t }))
-timeAt Arrival t = atTime (arrival (record { 0 = t }))
-timeAt BadDirection t = BadTime
+unfoldable pub timeFor : Direction → ℕ → Constraint
+timeFor Departure t = atTime (departure (record { 0 = t }))
+timeFor Arrival t = atTime (arrival (record { 0 = t }))
+timeFor BadDirection t = BadTime
 
 unfoldable pub asks : Location → Location → TimeConstraint → Options → Question
 asks from to c o =
@@ -72,7 +72,7 @@ asksAt from to BadTime o = BadAsked
 
 -- what is asked at a moment, where it is one
 unfoldable pub askedFor : Location → Location → Direction → Moment → Options → Asked
-askedFor from to d (atMoment t) o = asksAt from to (timeAt d t) o
+askedFor from to d (atMoment t) o = asksAt from to (timeFor d t) o
 askedFor from to d NoForm o = BadAsked
 askedFor from to d NoMinutes o = BadAsked
 askedFor from to d LateMoment o = BadAsked

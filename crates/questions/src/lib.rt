@@ -11,10 +11,10 @@ use shared::Time;
 ghost use mathlib.Core.Path.{_≡_};
 ghost use Prim.Native.Nat.{_+_};
 ghost use Rattle.arguments.specs.Moment.{fits};
-ghost use Rattle.questions.specs.Asking.{spotOf, directionSaid, walksFor, modeFor, timeAt, asks, asksAt, askedFor};
+ghost use Rattle.questions.specs.Asking.{spotOf, directionSaid, walksFor, modeFor, timeFor, asks, asksAt, askedFor};
 
-// A query, the place of the argument that names a file of tables, 0 for none, the timetable's midnight, and whether a journey is asked for as
-// bytes.
+// A query, the place of the argument that names a file of tables, 0 for none, the timetable's midnight, and whether the journey is asked
+// for as bytes.
 pub struct Question {
     pub query: Query,
     pub file: usize,
@@ -91,7 +91,7 @@ fn mode_of(said: u32) -> Mode
 
 // The earliest departure or the latest arrival.
 fn constraint_of(direction: Direction, t: u32) -> Constraint
-    ensures { λ r. ⌜ r ≡ timeAt direction t ⌝ }
+    ensures { λ r. ⌜ r ≡ timeFor direction t ⌝ }
 {
     match direction {
         Direction::Departure => Constraint::At(TimeConstraint::Departure(Time(t))),
@@ -123,7 +123,7 @@ fn asked_at(from: Location, to: Location, c: TimeConstraint, o: Options) -> Ques
 
 // What is asked where a moment of the timetable is.
 fn asked_when(from: Location, to: Location, direction: Direction, t: u32, o: Options) -> Asked
-    ensures { λ r. ⌜ r ≡ asksAt from to (timeAt direction t) o ⌝ }
+    ensures { λ r. ⌜ r ≡ asksAt from to (timeFor direction t) o ⌝ }
 {
     let constraint = constraint_of(direction, t);
     match constraint {

@@ -1,7 +1,7 @@
 -- `questions::constraint_of`: by the direction.
 use borrow.Author.Needs.{needs}
 use Rattle.questions.proofs.Asking.{time-departs, time-arrives}
-use Rattle.questions.specs.Asking.{timeAt}
+use Rattle.questions.specs.Asking.{timeFor}
 use Rattle.questions.proofs.constraint_of.Statement.{statement}
 use Rattle.questions.proofs.constraint_of.Tie as tie
 
@@ -21,7 +21,7 @@ returns-2 : tie.Need-returns-2
 returns-2 c = search (needs, time-arrives)
 
 returns-3 : tie.Need-returns-3
-unfolding timeAt
+unfolding timeFor
 returns-3 c = search needs
 
 pub constraint-of-spec : {M : Type 1} → statement M
