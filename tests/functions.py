@@ -9,7 +9,7 @@ from reading import HERE, crates, every_function, source, text_of
 
 # What prints or reads: where the words come from or go to is in no contract of the kit's `io` and `os`, so the tests compare it.
 PRINTS = "prints"
-READS = "reads its arguments or a file"
+READS = "reads its arguments, its input or a file"
 OUTSIDE = {
     "print::text": PRINTS,
     "print::number": PRINTS,
@@ -18,18 +18,20 @@ OUTSIDE = {
     "print::legs": PRINTS,
     "replay::probe::answer_line": PRINTS,
     "replay::rust::answer_line": PRINTS,
+    "input::read_input": READS,
     "loading::load": READS,
     "loading::print_fault": PRINTS,
-    "telling::meant::print_meant": PRINTS,
-    "telling::meant::print_missing": PRINTS,
+    "network::load": READS,
+    "refusing::meant::print_meant": PRINTS,
+    "refusing::meant::print_missing": PRINTS,
     "telling::moment::print_moment": PRINTS,
-    "telling::tell": PRINTS,
+    "refusing::print_meaning": PRINTS,
+    "telling::tell_asked": PRINTS,
     "gtfs_again::write_and_read": PRINTS,
     "gtfs_telling::print_counts": PRINTS,
     "gtfs_telling::print_number": PRINTS,
     "gtfs_telling::print_refused": PRINTS,
     "gtfs_telling::print_rows": PRINTS,
-    "querying::options::with_option": PRINTS + " what is wrong with an option; what it means is `arguments::options::with_said`",
     "querying::read_query": READS,
     "querying::asks_help": READS,
 }

@@ -136,7 +136,7 @@ for name in sorted(named - long):
 # ==== each file says its subject first
 tracked = files("crates/*/src/**/*.rt") + files("crates/*/specs/**/*.antt") + files("crates/*/proofs/**/*.antt")
 scripts = [p for folder in ("tests", "tools", "compare", "bench", "plain", "rust", "oracle") for end in ("py", "sh", "c", "h", "rs") for p in files(f"{folder}/**/*.{end}")]
-for path in tracked + ["test", "kiosk"] + [p for p in scripts if "/target/" not in p and "/shims/" not in p]:
+for path in tracked + ["test", "kiosk", "checkjourney"] + [p for p in scripts if "/target/" not in p and "/shims/" not in p]:
     lines = text_of(path).split("\n")
     first = lines[1] if lines[0].startswith("#!/") and len(lines) > 1 else lines[0]
     if not re.match(r"(--|//!?|#|/\*\*?|\"\"\") ?[\w`\"“]", first) and not first.startswith("#![doc ="):

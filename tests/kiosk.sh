@@ -4,7 +4,7 @@
 set -eu
 cd "$(dirname "$0")/.."
 root=$(pwd)
-said=$(rt check kiosk 2>&1) || { printf '%s\n' "$said"; exit 1; }
+said=$(rt check kiosk showlegs 2>&1) || { printf '%s\n' "$said"; exit 1; }
 room=$(mktemp -d)
 trap 'rm -rf "$room"' EXIT
 cd "$room"
@@ -52,7 +52,7 @@ awk 'BEGIN { for (i = 0; i < 6144; i++) print 0 }' >words6144
 awk 'BEGIN { for (i = 0; i < 6145; i++) print 0 }' >words6145
 : >empty
 long=$(awk 'BEGIN { for (i = 0; i < 1024; i++) printf 0 }')
-usage='usage: kiosk FROM TO depart|arrive MOMENT [walks:yes|walks:no] [mode:source|mode:rescan] [tables:FILE] [midnight:SECONDS]'
+usage='usage: kiosk FROM TO depart|arrive MOMENT [walks:yes|walks:no] [mode:source|mode:rescan] [tables:FILE] [midnight:SECONDS] [bytes]'
 departs='10: no route found; a journey that departs begins with a ride, and a walk alone is none'
 arrives='10: no route found; a journey that arrives ends with a ride, and a walk alone is none'
 
@@ -303,7 +303,7 @@ $usage
 MOMENT: 1193046:28:16 is no moment: there are at most 4294967295 seconds, those of midnight among them
 $usage
 > 0 4 depart 50 fast
-option: fast is no option: there are walks, mode, tables and midnight
+option: fast is no option: there are walks, mode, tables, midnight and bytes
 $usage
 > 0 4 depart 50 walks:maybe
 option: walks:maybe is no option: walks is yes or no
@@ -337,6 +337,16 @@ $usage
 > 0 4 depart 50 mode:source walks:no mode:rescan
 option: mode:rescan: mode is given twice, and may be given once
 $usage
+> 0 4 depart 50 bytes:yes
+option: bytes:yes is no option: there are walks, mode, tables, midnight and bytes
+$usage
+> 0 4 depart 50 bytes tables:m bytes
+option: bytes: bytes is given twice, and may be given once
+$usage
+> 0 4 depart 401 bytes
+$departs
+> 5 4 depart 50 bytes
+7: a stop or area that does not exist: FROM is stop 5, and the tables have stops 0 to 4 and no areas
 > 0 4 depart 50 tables:m tables:m
 option: tables:m: tables is given twice, and may be given once
 $usage
@@ -388,6 +398,16 @@ asked 0 output 0 4 depart 50
 says 'Leave stop 0 at 0:01:40, arrive at stop 4 at 0:07:30: 2 rides, round 1.'
 asked 1 error 0 4 depart 401
 says "$departs"
+# a journey as bytes: what `showlegs` is held to
+asked 0 output 0 4 depart 50 bytes
+"$root/tests/run.sh" showlegs <said >legs
+printf 'ride 0 2 0 100 300\ntransfer 2 3 - 300 330\nride 3 4 2 350 450\nlegs 3\n' | diff - legs || { echo './kiosk .. bytes: not the bytes of N1'; exit 1; }
+# one that begins with a footpath
+asked 0 output 2 4 arrive 450 tables:n9 bytes
+[ "$(head -c 1 said | od -An -tu1 | tr -d ' ')" = 2 ] || { echo './kiosk .. bytes: no footpath first'; exit 1; }
+asked 1 error 0 4 depart 401 bytes
+says "$departs"
+asked 2 error 0 4 depart 50 bytes bytes
 asked 1 error 5 4 depart 50
 asked 1 error 0 4 depart 0
 asked 1 error 0 4 depart 50 tables:bad2

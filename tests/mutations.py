@@ -314,7 +314,7 @@ MUTATIONS = [
     ("a rule under another number", lambda: sub(TABLES, "| 4 | \"At each", "| 3 | \"At each"), False, LAYOUT, "its rules are not the tests of the check"),
     ("a rule in words that nobody wrote", lambda: sub(TABLES, "equality is allowed.", "equality is refused."), False, LAYOUT, "the definitions do not quote"),
     ("a word of N changed", lambda: sub(TABLES, "| 2 3 30 0 |", "| 2 3 31 0 |"), False, LAYOUT, "N's words are not what tools/timetable.py makes"),
-    ("a word of N changed in the program", lambda: sub("crates/kiosk/src/network.rt", "    30,\n    0,\n", "    31,\n    0,\n"), False, LAYOUT, "network.rt: its words of N are not those of the page"),
+    ("a word of N changed in the program", lambda: sub("crates/network/src/words.rt", "    30,\n    0,\n", "    31,\n    0,\n"), False, LAYOUT, "words.rt: its words of N are not those of the page"),
     ("a place of N's words changed", lambda: sub(TABLES, "| 58 to 62 |", "| 58 to 63 |"), False, LAYOUT, "the words of SERVED are 58 to 62"),
     ("a law among the definitions", added("crates/model/specs/Spans.antt", "pub more : 0 ≡ 0\nmore = refl\n"), False, RULES, "more is a law or a text that stays shut"),
     ("a private law among the definitions", added("crates/model/specs/Spans.antt", "more : 0 ≡ 0\nmore = refl\n"), False, RULES, "more is a law or a text that stays shut"),

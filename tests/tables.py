@@ -141,7 +141,7 @@ if words[: count + 1] != [header + sum(len([w for w in r[2].replace(",", " ").sp
 told = re.search(r"^(\d+) words; the test holds", text_of(PAGE), re.M)
 if not told or int(told.group(1)) != len(words):
     complain(f"N has {len(words)} words")
-network = "crates/kiosk/src/network.rt"
+network = "crates/network/src/words.rt"
 if words != [int(w) for w in re.findall(r"\d+", text_of(network).split("= [")[1])]:
     complain("its words of N are not those of the page", network)
 if words != timetable.read(os.path.join(HERE, "examples/N.txt"), timetable.Timetable()).words():

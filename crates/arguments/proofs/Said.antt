@@ -9,12 +9,12 @@ use Rattle.arguments.specs.declared.bytes.Number.the-variants.{Value}
 use Rattle.arguments.specs.declared.options.Chosen.{Chosen}
 use Rattle.arguments.specs.declared.options.Options.{Options}
 use Rattle.arguments.specs.declared.options.Said.{Said}
-use Rattle.arguments.specs.declared.options.Said.the-variants.{Walks, Mode, Tables, Midnight, BadWalks, BadMode, Unknown}
+use Rattle.arguments.specs.declared.options.Said.the-variants.{Walks, Mode, Tables, Midnight, Bytes, BadWalks, BadMode, Unknown}
 use Rattle.arguments.specs.declared.place.Place.{Place}
 use Rattle.arguments.specs.Digits.{numberIn}
 use Rattle.arguments.specs.Word.{afterOf, beginsWith, same}
 use Rattle.arguments.specs.Place.{areaWord, numbered, located, placeSaid}
-use Rattle.arguments.specs.Options.{walksWord, walksYes, walksNo, modeWord, modeSource, modeRescan, tablesWord, midnightWord, walksSaid, modeSaid, tablesSaid, midnightSaid, saidOf, withWalks, withMode, withTables, withMidnight, withSaid}
+use Rattle.arguments.specs.Options.{walksWord, walksYes, walksNo, modeWord, modeSource, modeRescan, tablesWord, midnightWord, bytesWord, walksSaid, modeSaid, tablesSaid, midnightSaid, saidOf, withWalks, withMode, withTables, withMidnight, withBytesSaid, withSaid}
 
 pub located-number : {v : Number} {n : ℕ} {r : Place} (from : ℕ) → v ≡ Value n → r ≡ numbered from n → r ≡ located from v
 unfolding located
@@ -76,9 +76,14 @@ module _ (arg : List ℕ) {a : Bool} (ea : a ≡ beginsWith arg walksWord) where
         unfolding saidOf
         said-midnight td ev e = e ∙ rw (← ea, ta, ← eb, tb, ← ec, tc, ← ed, td, ev)
 
-        pub said-unknown : d ≡ false → Unknown ≡ saidOf arg
-        unfolding saidOf
-        said-unknown td = rw (← ea, ta, ← eb, tb, ← ec, tc, ← ed, td)
+        module _ (td : d ≡ false) {y : Bool} (ey : y ≡ same arg bytesWord) where
+          pub said-bytes : y ≡ true → Bytes ≡ saidOf arg
+          unfolding saidOf
+          said-bytes ty = rw (← ea, ta, ← eb, tb, ← ec, tc, ← ed, td, ← ey, ty)
+
+          pub said-unknown : y ≡ false → Unknown ≡ saidOf arg
+          unfolding saidOf
+          said-unknown ty = rw (← ea, ta, ← eb, tb, ← ec, tc, ← ed, td, ← ey, ty)
 
 module _ (o : Options) (i : ℕ) {s : Said} {r : Chosen} where
   pub with-said-walks : {v : ℕ} → s ≡ Walks v → r ≡ withWalks o v → r ≡ withSaid o s i
@@ -96,3 +101,7 @@ module _ (o : Options) (i : ℕ) {s : Said} {r : Chosen} where
   pub with-said-midnight : {v : ℕ} → s ≡ Midnight v → r ≡ withMidnight o v → r ≡ withSaid o s i
   unfolding withSaid
   with-said-midnight e f = rw e f
+
+  pub with-said-bytes : s ≡ Bytes → r ≡ withBytesSaid o → r ≡ withSaid o s i
+  unfolding withSaid
+  with-said-bytes e f = rw e f

@@ -3,7 +3,7 @@ use super::bytes;
 use super::bytes::Number;
 ghost use mathlib.Core.Path.{_≡_};
 ghost use Rattle.arguments.specs.Options.{unsaid, walksSaid, modeSaid, tablesSaid, midnightSaid, saidOf};
-ghost use Rattle.arguments.specs.Options.{withWalks, withMode, withTables, withMidnight, withSaid};
+ghost use Rattle.arguments.specs.Options.{withWalks, withMode, withTables, withMidnight, withBytesSaid, withSaid};
 
 // What is said so far.
 pub struct Options {
@@ -16,6 +16,8 @@ pub struct Options {
     // whether a midnight is said, and its seconds
     pub moved: bool,
     pub midnight: u32,
+    // whether the journey is asked for as bytes
+    pub bytes: bool,
 }
 
 // The option that an argument is, or of which option it is a bad one.
@@ -24,6 +26,7 @@ pub enum Said {
     Mode(u32),
     Tables,
     Midnight(u32),
+    Bytes,
     BadWalks,
     BadMode,
     BadTables,
@@ -47,6 +50,7 @@ pub fn none() -> Options
         file: 0,
         moved: false,
         midnight: 0,
+        bytes: false,
     }
 }
 
@@ -109,6 +113,9 @@ pub fn said_of(arg: &[u8]) -> Said
     if bytes::begins_with(arg, b"midnight:") {
         return midnight_said(bytes::number_in(arg, 9, arg.len()));
     }
+    if bytes::is(arg, b"bytes") {
+        return Said::Bytes;
+    }
     Said::Unknown
 }
 
@@ -122,6 +129,7 @@ fn with_walks(o: Options, walks: u32) -> Chosen
             file: o.file,
             moved: o.moved,
             midnight: o.midnight,
+            bytes: o.bytes,
         });
     }
     Chosen::Twice
@@ -137,6 +145,7 @@ fn with_mode(o: Options, mode: u32) -> Chosen
             file: o.file,
             moved: o.moved,
             midnight: o.midnight,
+            bytes: o.bytes,
         });
     }
     Chosen::Twice
@@ -152,6 +161,7 @@ fn with_tables(o: Options, file: usize) -> Chosen
             file: file,
             moved: o.moved,
             midnight: o.midnight,
+            bytes: o.bytes,
         });
     }
     Chosen::Twice
@@ -169,6 +179,23 @@ fn with_midnight(o: Options, midnight: u32) -> Chosen
         file: o.file,
         moved: true,
         midnight: midnight,
+        bytes: o.bytes,
+    })
+}
+
+fn with_bytes(o: Options) -> Chosen
+    ensures { λ r. ⌜ r ≡ withBytesSaid o ⌝ }
+{
+    if o.bytes {
+        return Chosen::Twice;
+    }
+    Chosen::Options(Options {
+        walks: o.walks,
+        mode: o.mode,
+        file: o.file,
+        moved: o.moved,
+        midnight: o.midnight,
+        bytes: true,
     })
 }
 
@@ -181,6 +208,7 @@ pub fn with_said(o: Options, said: Said, i: usize) -> Chosen
         Said::Mode(v) => with_mode(o, v),
         Said::Tables => with_tables(o, i),
         Said::Midnight(t) => with_midnight(o, t),
+        Said::Bytes => with_bytes(o),
         Said::BadWalks => Chosen::Bad,
         Said::BadMode => Chosen::Bad,
         Said::BadTables => Chosen::Bad,

@@ -1,47 +1,20 @@
-// The query that the arguments are, or a line that says which argument is bad and why.
+// The query that the arguments are, or a line that says which argument is bad and why. Which query that is stands in `questions`.
 mod options; // options.rt: the options that the arguments say
 
 use arguments::moment::Moment;
 use arguments::options::Options;
+use arguments::place::Place;
 use model::Location;
-use model::Mode;
-use model::Query;
-use model::TimeConstraint;
-use model::Walks;
 use options::Read;
-use shared::Time;
-
-// A query, the place of the argument that names a file of tables, 0 for none, and the timetable's midnight.
-pub struct Question {
-    pub query: Query,
-    pub file: usize,
-    pub midnight: u32,
-}
-
-// What is asked, or that an argument is bad.
-pub enum Asked {
-    Question(Question),
-    Bad,
-}
-
-enum Place {
-    At(Location),
-    Bad,
-}
+use questions::Asked;
+use questions::Direction;
+use questions::Spot;
+ghost use mathlib.Core.Path.{_≡_};
+ghost use Rattle.arguments.specs.Place.{placeSaid};
+ghost use Rattle.questions.specs.Asking.{spotOf, directionSaid};
 
 enum When {
     At(u32),
-    Bad,
-}
-
-enum Direction {
-    Departure,
-    Arrival,
-    Bad,
-}
-
-enum Constraint {
-    At(TimeConstraint),
     Bad,
 }
 
@@ -66,48 +39,56 @@ fn is_whole(name: &[u8], error: i32) -> bool {
     false
 }
 
-fn place_of(name: &[u8], arg: &[u8]) -> Place {
-    let place = arguments::place::place_of(arg);
+// Says why an argument is no place.
+fn print_no_place(name: &[u8], arg: &[u8], place: Place) {
     match place {
-        arguments::place::Place::Stop(n) => return Place::At(Location::Stop(n)),
-        arguments::place::Place::Area(n) => return Place::At(Location::Area(n)),
-        arguments::place::Place::Nothing => {
-            say(
-                name,
-                arg,
-                b" is no place: give the number of a stop, or area: and a number\n",
-            );
-            return Place::Bad;
-        }
-        arguments::place::Place::TooLarge => {
-            say(name, arg, b" is no place: a number is at most 4294967295\n");
-            return Place::Bad;
-        }
+        Place::Stop(_) => return,
+        Place::Area(_) => return,
+        Place::Nothing => say(
+            name,
+            arg,
+            b" is no place: give the number of a stop, or area: and a number\n",
+        ),
+        Place::TooLarge => say(name, arg, b" is no place: a number is at most 4294967295\n"),
     }
 }
 
+fn place_of(name: &[u8], arg: &[u8]) -> Spot
+    ensures { λ r. ⌜ r ≡ spotOf (placeSaid (now (arg .entry))) ⌝ }
+{
+    let place = arguments::place::place_of(arg);
+    print_no_place(name, arg, place);
+    questions::spot_of(place)
+}
+
 // The place that argument i is.
-fn read_place(buffer: &mut [u8], i: usize, name: &[u8]) -> Place {
+fn read_place(buffer: &mut [u8], i: usize, name: &[u8]) -> Spot {
     let n = os::arg(i, buffer);
     if is_whole(name, os::errno()) {
         return place_of(name, &buffer[..n]);
     }
-    Place::Bad
+    Spot::Bad
 }
 
-fn direction_of(arg: &[u8]) -> Direction {
-    if arguments::bytes::is(arg, b"depart") {
-        return Direction::Departure;
+// Says why an argument is no direction.
+fn print_no_direction(arg: &[u8], direction: Direction) {
+    match direction {
+        Direction::Departure => return,
+        Direction::Arrival => return,
+        Direction::Bad => say(
+            b"depart|arrive",
+            arg,
+            b" is neither: depart at MOMENT, or arrive by it\n",
+        ),
     }
-    if arguments::bytes::is(arg, b"arrive") {
-        return Direction::Arrival;
-    }
-    say(
-        b"depart|arrive",
-        arg,
-        b" is neither: depart at MOMENT, or arrive by it\n",
-    );
-    Direction::Bad
+}
+
+fn direction_of(arg: &[u8]) -> Direction
+    ensures { λ r. ⌜ r ≡ directionSaid (now (arg .entry)) ⌝ }
+{
+    let direction = questions::direction_of(arg);
+    print_no_direction(arg, direction);
+    direction
 }
 
 // Whether argument 3 asks for the departure or the arrival.
@@ -156,20 +137,11 @@ fn read_moment(buffer: &mut [u8]) -> When {
     When::Bad
 }
 
-// The moment t, which argument 4 said, against the timetable's midnight.
-fn read_moved(buffer: &mut [u8], t: u32, midnight: u32) -> When {
+// Says so where the moment t, which argument 4 said, does not fit against the timetable's midnight.
+fn print_unfit(buffer: &mut [u8], t: u32, midnight: u32) {
     let n = os::arg(4, buffer);
     let moment = arguments::moment::moved(t, midnight);
-    seconds_of(&buffer[..n], moment)
-}
-
-// The earliest departure or the latest arrival.
-fn constraint_of(direction: Direction, t: u32) -> Constraint {
-    match direction {
-        Direction::Departure => Constraint::At(TimeConstraint::Departure(Time(t))),
-        Direction::Arrival => Constraint::At(TimeConstraint::Arrival(Time(t))),
-        Direction::Bad => Constraint::Bad,
-    }
+    seconds_of(&buffer[..n], moment);
 }
 
 // The options with the one that argument i is.
@@ -197,39 +169,6 @@ fn read_options(buffer: &mut [u8]) -> Read {
     Read::Options(o)
 }
 
-fn walks_of(said: u32) -> Walks {
-    match said {
-        1 => return Walks::Allowed,
-        2 => return Walks::Barred,
-        _ => return Walks::Unsaid,
-    }
-}
-
-fn mode_of(said: u32) -> Mode {
-    if said == 2 {
-        return Mode::Rescan;
-    }
-    Mode::Source
-}
-
-// What is asked at the time c with the options o.
-fn asked_at(from: Location, to: Location, c: TimeConstraint, o: Options) -> Question {
-    let w = walks_of(o.walks);
-    let m = mode_of(o.mode);
-    let q = Query {
-        from: from,
-        to: to,
-        time: c,
-        walks: w,
-        mode: m,
-    };
-    Question {
-        query: q,
-        file: o.file,
-        midnight: o.midnight,
-    }
-}
-
 // What is asked between two places at a moment: the options say which midnight that moment counts from.
 fn read_asked(
     buffer: &mut [u8],
@@ -242,15 +181,8 @@ fn read_asked(
     let Read::Options(o) = read else {
         return Asked::Bad;
     };
-    let moved = read_moved(buffer, t, o.midnight);
-    let When::At(m) = moved else {
-        return Asked::Bad;
-    };
-    let constraint = constraint_of(direction, m);
-    let Constraint::At(c) = constraint else {
-        return Asked::Bad;
-    };
-    Asked::Question(asked_at(from, to, c, o))
+    print_unfit(buffer, t, o.midnight);
+    questions::question_of(from, to, direction, t, o)
 }
 
 // What is asked between two places: arguments 3 and 4, and the options behind them.
@@ -269,11 +201,11 @@ fn read_rest(buffer: &mut [u8], from: Location, to: Location) -> Asked {
 // What the arguments ask. `buffer` holds one argument at a time.
 pub fn read_query(buffer: &mut [u8]) -> Asked {
     let from = read_place(buffer, 1, b"FROM");
-    let Place::At(f) = from else {
+    let Spot::At(f) = from else {
         return Asked::Bad;
     };
     let to = read_place(buffer, 2, b"TO");
-    let Place::At(t) = to else {
+    let Spot::At(t) = to else {
         return Asked::Bad;
     };
     read_rest(buffer, f, t)

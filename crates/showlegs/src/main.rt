@@ -1,35 +1,7 @@
 // Prints the legs of the journey bytes on standard input, then how many they are; of bytes that are none, `bad` and the offset of the bad
 // leg's first byte. More than 4,096 bytes are `long`; an input that cannot be read is `unreadable`, and no journey.
+use input::Input;
 use journey::Reading;
-use libc::STDIN_FILENO;
-
-// How many bytes standard input has, as far as the buffer goes; or that reading it failed.
-enum Input {
-    Bytes(usize),
-    Failed,
-}
-
-// Reads until the input ends, the buffer is full or a read fails.
-fn read_input(bytes: &mut [u8]) -> Input {
-    let mut n = 0;
-    while n < bytes.len() {
-        let left = bytes.len() - n;
-        let got = libc::read(STDIN_FILENO, &mut bytes[n..]);
-        if got < 0 {
-            return Input::Failed;
-        }
-        let more = io::count(got, &bytes[n..]);
-        if more == 0 {
-            return Input::Bytes(n);
-        }
-        // no read gives more than was asked for
-        if left < more {
-            return Input::Failed;
-        }
-        n += more;
-    }
-    Input::Bytes(n)
-}
 
 fn show(bytes: &[u8]) {
     let reading = journey::read(bytes);
@@ -62,7 +34,7 @@ fn show_first(bytes: &[u8], n: usize) {
 
 fn main() {
     let mut bytes = [0u8; 4097];
-    let input = read_input(&mut bytes);
+    let input = input::read_input(&mut bytes);
     let Input::Bytes(n) = input else {
         print::text(b"unreadable\n");
         return;

@@ -1,5 +1,4 @@
 // An answer in words: the journey, leg by leg, or the number of a refusal and what it means.
-mod meant; // meant.rt: which stops a place stands for, which place there is none of
 mod moment; // moment.rt: a moment as a clock shows it
 
 use asking::Told;
@@ -9,6 +8,7 @@ use model::Leg;
 use model::LegType;
 use model::Query;
 use model::TimeConstraint;
+use questions::Question;
 use shared::Time;
 ghost use Prim.Native.Nat.{_≤_};
 
@@ -121,7 +121,7 @@ fn print_journey(tables: &[u32], bytes: &[u8], round: u32, q: Query, midnight: u
     print::text(b", round ");
     print::number(round as u64);
     print::text(b".\n");
-    meant::print_meant(tables, q);
+    refusing::meant::print_meant(tables, q);
     print_legs(bytes, midnight);
 }
 
@@ -133,66 +133,9 @@ fn print_found(tables: &[u32], journey: &[u8], length: usize, round: u32, q: Que
     print_journey(tables, &journey[..length], round, q, midnight);
 }
 
-// What number 3 means: three faults of moments.
-fn print_moments() {
-    print::text(
-        b": a timetable moment outside 1 to 1,000,000; arrival after departure at a position; ",
-    );
-    print::text(b"departure after the next position's arrival\n");
-}
-
-// What a number of the tables means, in document 01's words.
-fn print_fault(number: u32) {
-    match number {
-        1 => print::text(
-            b": a count over its limit, a route without a stop, a slice of wrong length\n",
-        ),
-        2 => print::text(b": an index out of range, or a list breaking a listing rule\n"),
-        3 => print_moments(),
-        4 => print::text(b": trips of a route out of order\n"),
-        _ => print::text(
-            b": a distance that is NaN, below 0 or above 100,000; a stated transfer span above 86,400\n",
-        ),
-    }
-}
-
-// Where the fault stands, if the tables are a file's.
-fn print_where(path: &[u8]) {
-    if path.len() == 0 {
-        return;
-    }
-    print::text(b"tools/fault.py ");
-    print::text(path);
-    print::text(b" says where\n");
-}
-
-// 8, and that the moment which was searched for has the seconds of midnight in it.
-fn print_outside(midnight: u32) {
-    print::text(b": query moment outside 1 to 1,000,000");
-    if midnight != 0 {
-        print::text(b", with the ");
-        print::number(midnight as u64);
-        print::text(b" seconds of midnight");
-    }
-    print::text(b"\n");
-}
-
-// What a refusal means, in document 01's words.
 fn print_refusal(tables: &[u32], path: &[u8], number: u32, q: Query, midnight: u32) {
     print::number(number as u64);
-    match number {
-        6 => print::text(b": a workspace slice of wrong length\n"),
-        7 => {
-            print::text(b": a stop or area that does not exist");
-            meant::print_missing(tables, q);
-        }
-        8 => print_outside(midnight),
-        9 => print::text(b": an area without a served stop\n"),
-        _ => {
-            print_fault(number);
-            print_where(path);
-        }
-    }
+    refusing::print_meaning(tables, path, number, q, midnight);
 }
 
 // 10, and what no journey is.
@@ -207,8 +150,40 @@ fn print_no_route(time: TimeConstraint) {
     }
 }
 
-// The answer to q; the journey stands in `journey`, the tables are those of the file at `path`.
-pub fn tell(tables: &[u32], path: &[u8], journey: &[u8], told: Told, q: Query, midnight: u32) {
+// The journey's bytes, where the answer is one: the buffer's first `length`. Whether it is.
+fn print_bytes(journey: &[u8], told: Told) -> bool {
+    let Told::Answer(a) = told else {
+        return false;
+    };
+    let Answer::Found {
+        time: _,
+        stop: _,
+        round: _,
+        length,
+    } = a
+    else {
+        return false;
+    };
+    if journey.len() < length {
+        return false;
+    }
+    print::text(&journey[..length]);
+    true
+}
+
+// The answer to q; the journey stands in `journey`, and is written as it stands there where `bytes` are asked for.
+pub fn tell_asked(tables: &[u32], path: &[u8], journey: &[u8], told: Told, asked: Question) {
+    let q = asked.query;
+    if asked.bytes {
+        if print_bytes(journey, told) {
+            return;
+        }
+    }
+    tell(tables, path, journey, told, q, asked.midnight);
+}
+
+// The answer to q in words; the tables are those of the file at `path`.
+fn tell(tables: &[u32], path: &[u8], journey: &[u8], told: Told, q: Query, midnight: u32) {
     let time = q.time;
     let Told::Answer(a) = told else {
         print::text(
@@ -226,7 +201,7 @@ pub fn tell(tables: &[u32], path: &[u8], journey: &[u8], told: Told, q: Query, m
         Answer::Refused(number) => print_refusal(tables, path, number, q, midnight),
         Answer::NoRouteFound => {
             print_no_route(time);
-            meant::print_meant(tables, q);
+            refusing::meant::print_meant(tables, q);
         }
         Answer::FailedToBuildRoute => print::text(b"11: a chosen stop but no leg\n"),
         Answer::TooLong(length) => {

@@ -1,7 +1,7 @@
 -- `arguments::options::said_of` meets its contract.
 use borrow.Author.Needs.{needs}
-use Rattle.arguments.proofs.Said.{said-walks, said-mode, said-tables, said-midnight, said-unknown}
-use Rattle.arguments.specs.Options.{walksWord, modeWord, tablesWord, midnightWord}
+use Rattle.arguments.proofs.Said.{said-walks, said-mode, said-tables, said-midnight, said-bytes, said-unknown}
+use Rattle.arguments.specs.Options.{walksWord, modeWord, tablesWord, midnightWord, bytesWord}
 use Rattle.arguments.proofs.options.said_of.Statement.{statement}
 use Rattle.arguments.proofs.options.said_of.Tie as tie
 
@@ -60,9 +60,19 @@ returns-4 : tie.Need-returns-4
 unfolding walksWord modeWord tablesWord midnightWord
 returns-4 c = search (needs, said-midnight)
 
+slice-aggregate-is : tie.Need-slice-aggregate-is
+slice-aggregate-is c = search needs
+
+is-requires : tie.Need-is-requires
+is-requires c κs = search needs
+
 returns-5 : tie.Need-returns-5
-unfolding walksWord modeWord tablesWord midnightWord
-returns-5 c = search (needs, said-unknown)
+unfolding walksWord modeWord tablesWord midnightWord bytesWord
+returns-5 c = search (needs, said-bytes)
+
+returns-6 : tie.Need-returns-6
+unfolding walksWord modeWord tablesWord midnightWord bytesWord
+returns-6 c = search (needs, said-unknown)
 
 pub said-of-spec : {M : Type 1} → statement M
 said-of-spec =
@@ -85,4 +95,7 @@ said-of-spec =
     number-in-requires
     midnight-said-requires
     returns-4
-    returns-5)
+    slice-aggregate-is
+    is-requires
+    returns-5
+    returns-6)

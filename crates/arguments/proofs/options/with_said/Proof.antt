@@ -1,6 +1,6 @@
 -- `arguments::options::with_said` meets its contract.
 use borrow.Author.Needs.{needs}
-use Rattle.arguments.proofs.Said.{with-said-walks, with-said-mode, with-said-tables, with-said-midnight}
+use Rattle.arguments.proofs.Said.{with-said-walks, with-said-mode, with-said-tables, with-said-midnight, with-said-bytes}
 use Rattle.arguments.specs.Options.{withSaid}
 use Rattle.arguments.proofs.options.with_said.Statement.{statement}
 use Rattle.arguments.proofs.options.with_said.Tie as tie
@@ -32,6 +32,9 @@ with-midnight-requires c κs = search needs
 enum-told-2 : tie.Need-enum-told-2
 enum-told-2 c = search needs
 
+with-bytes-requires : tie.Need-with-bytes-requires
+with-bytes-requires c κs = search needs
+
 enum-told-3 : tie.Need-enum-told-3
 enum-told-3 c = search needs
 
@@ -43,6 +46,9 @@ enum-told-5 c = search needs
 
 enum-told-6 : tie.Need-enum-told-6
 enum-told-6 c = search needs
+
+enum-told-7 : tie.Need-enum-told-7
+enum-told-7 c = search needs
 
 returns : tie.Need-returns
 returns c = search (needs, with-said-walks)
@@ -57,8 +63,7 @@ returns-4 : tie.Need-returns-4
 returns-4 c = search (needs, with-said-midnight)
 
 returns-5 : tie.Need-returns-5
-unfolding withSaid
-returns-5 c = search needs
+returns-5 c = search (needs, with-said-bytes)
 
 returns-6 : tie.Need-returns-6
 unfolding withSaid
@@ -76,6 +81,10 @@ returns-9 : tie.Need-returns-9
 unfolding withSaid
 returns-9 c = search needs
 
+returns-10 : tie.Need-returns-10
+unfolding withSaid
+returns-10 c = search needs
+
 pub with-said-spec : {M : Type 1} → statement M
 with-said-spec =
     tie.close
@@ -89,10 +98,12 @@ with-said-spec =
     enum-known-said-3
     with-midnight-requires
     enum-told-2
+    with-bytes-requires
     enum-told-3
     enum-told-4
     enum-told-5
     enum-told-6
+    enum-told-7
     returns
     returns-2
     returns-3
@@ -101,4 +112,5 @@ with-said-spec =
     returns-6
     returns-7
     returns-8
-    returns-9)
+    returns-9
+    returns-10)

@@ -1,0 +1,3 @@
+-- The laws of `checkjourney`.
+pub mod Printed
+pub mod Parts

@@ -1,0 +1,2 @@
+-- The definitions that the contracts of `checkjourney` cite.
+pub mod Printed

@@ -1,0 +1,2 @@
+-- The laws of `querying`.
+pub mod Reading

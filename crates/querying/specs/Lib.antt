@@ -1,0 +1,2 @@
+-- The definitions that the contracts of `querying` cite.
+pub mod Reading

@@ -1,0 +1,2 @@
+-- The definitions that the contracts of `questions` cite.
+pub mod Asking
