@@ -13,8 +13,11 @@ stands() {
 }
 ./kiosk 0 4 depart 50 >"$room/said"
 stands
+./kiosk 0 4 depart 50 bytes | ./checkjourney 0 4 depart 50 >"$room/checked"
 tools/drawing.py --asked 50 examples/N.txt <"$room/said" >"$room/N1.svg"
 cmp "$room/N1.svg" docs/N1.svg
+mv "$room/checked" "$room/said"
+stands
 tools/timetable.py examples/town.txt >"$room/town.net"
 tools/fault.py "$room/town.net" >"$room/said"
 stands
@@ -23,5 +26,5 @@ stands
 rust/library.sh >/dev/null
 (cd rust && CARGO_TARGET_DIR=../target/rust cargo run --offline --quiet --example gtfs -- ../examples/feed 'Harbour, east' Hill depart 7:50:00) >"$room/said"
 stands
-[ $lines -eq 12 ] || { echo "README.md: $lines lines were printed"; exit 1; }
+[ $lines -eq 13 ] || { echo "README.md: $lines lines were printed"; exit 1; }
 echo "README.md: its commands print what it says"
