@@ -35,5 +35,6 @@ int times(const char *only);            /* of all the cities, or of the one that
 int growth(void);
 int memory(void);
 int threads_table(void);
+int judging(void);                      /* a yes or no on journey bytes beside a search */
 
 #endif

@@ -1,6 +1,7 @@
 /* What one search takes in several writings, the Rust, plain C and the proved library, in time and memory: the tables of docs/BENCHMARKS.md.
 
-   search times [CITY] | threads | growth | memory      a table; all agree on every query that is drawn for it */
+   search times [CITY] | threads | growth | memory      a table; all agree on every query that is drawn for it
+   search judge                                         a table; journeys are judged, and all get a yes */
 #include <stdio.h>
 #include <string.h>
 #include "measure.h"
@@ -13,6 +14,7 @@ int main(int argc, char **argv) {
     if (argc == 2 && strcmp(what, "threads") == 0) return threads_table();
     if (argc == 2 && strcmp(what, "growth") == 0) return growth();
     if (argc == 2 && strcmp(what, "memory") == 0) return memory();
-    fprintf(stderr, "search times [CITY] | threads | growth | memory\n");
+    if (argc == 2 && strcmp(what, "judge") == 0) return judging();
+    fprintf(stderr, "search times [CITY] | threads | growth | memory | judge\n");
     return 2;
 }

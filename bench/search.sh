@@ -4,6 +4,7 @@
 #   search.sh times [CITY]      the times in three cities, or in one of them: small, middle, limit
 #   search.sh growth            how the time grows with stops, routes, trips and rides
 #   search.sh memory            the memory of each
+#   search.sh judge             a yes or no on journey bytes, beside a search for the same query
 #   search.sh threads           the Rust over the real rayon, with one thread and with its default
 # LTO=1 times the Rust with link-time optimization; ../compare/writings.sh says what leaves a writing out.
 set -eu
@@ -17,7 +18,7 @@ mkdir -p "$bench"
 program() {
     name=$bench/$1 profile=$2 kind=$3
     set --
-    for f in search measure table times growth memory threads; do set -- "$@" "$root/bench/$f.c"; done
+    for f in search measure table times growth memory threads judge; do set -- "$@" "$root/bench/$f.c"; done
     build "$name" "$profile" "$kind" "$@"
 }
 
@@ -36,6 +37,7 @@ all)
     program search $timed plain
     table times "$bench/search" times
     table growth "$bench/search" growth
+    table judge "$bench/search" judge
     program search-memory $timed counting
     table memory "$bench/search-memory" memory
     if has_rayon; then

@@ -17,12 +17,13 @@ const char *whole(unsigned long n) {
     out[at] = 0;
     return out;
 }
-const char *microseconds(double us) {
-    if (us >= 99.95) return whole((unsigned long)(us + 0.5));
+const char *figure(double x) {
+    if (x >= 99.95) return whole((unsigned long)(x + 0.5));
     char *out = cell();
-    sprintf(out, us > 0 ? "%.1f" : "", us);
+    sprintf(out, x > 0 ? "%.1f" : "", x);
     return out;
 }
+const char *microseconds(double us) { return figure(us); }
 const char *quotient(double a, double b) {
     char *out = cell();
     sprintf(out, a > 0 && b > 0 ? "%.2f" : "", a / b);

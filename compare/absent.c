@@ -36,9 +36,11 @@ void rust_sizes(const uint32_t *words, size_t len, size_t *out) { (void)words, (
 #ifdef OURS
 const int has_ours = 1;
 solver *const ours_checking = kiosk_solve, *const ours_checked = kiosk_solve_checked;
+judge *const our_judge = kiosk_judge, *const our_judge_checked = kiosk_judge_checked;
 #else
 const int has_ours = 0;
 solver *const ours_checking = NULL, *const ours_checked = NULL;
+judge *const our_judge = NULL, *const our_judge_checked = NULL;
 uint32_t kiosk_check(const uint32_t *words, size_t len) { (void)words, (void)len; return 0; }
 uint32_t kiosk_room(const uint32_t *words, size_t len, uint32_t *room, size_t room_len) {
     (void)words, (void)len, (void)room, (void)room_len;

@@ -1,15 +1,17 @@
 /* The C face under libFuzzer and the address sanitizer: inputs are led by which edges of the proved code they reach.
 
    Each slice is a block of exactly its bytes, so that a read or write past it stops the run. Compared with plain C, to the last word and
-   byte: the number of the tables, the room, the answer and everything lent, with a new workspace and with a used one; and how journey bytes
-   are read. fuzz.sh builds and runs it. SEEDS=FOLDER writes the first inputs there; LIE=tables and LIE=room must stop the run. */
+   byte: the number of the tables, the room, the answer and everything lent, with a new workspace and with a used one; how journey bytes
+   are read, and how they are judged. fuzz.sh builds and runs it. SEEDS=FOLDER writes the first inputs there; LIE=tables, room and journey must stop the run. */
 #include <stdlib.h>
 #include <string.h>
 #include "city.h"
 #include "dice.h"
 #include "fuzzing.h"
+#include "journeys.h"
 #include "nasty.h"
 #include "../plain/check.h"
+#include "../plain/judge.h"
 #include "../plain/tables.h"
 
 /* ---- an input: a head, then journey bytes of any kind, then the words of the tables, the last of which may be cut */
@@ -83,27 +85,16 @@ static uint32_t *tables_of(const input *in, size_t *len) {
 
 /* ---- what is compared */
 
-static unsigned long given[14];
+static unsigned long given[14], yes, no;
 void print_given(FILE *out) {
     fprintf(out, "given");
     for (int i = 0; i < 14; i++) fprintf(out, " %d: %lu", i, given[i]);
+    fprintf(out, "; judged yes: %lu, no: %lu", yes, no);
 }
 
-/* A leg of journey bytes, read by plain C: its size, which is above 13; 0 where no byte is left, 13 for an unknown kind or a cut body. */
-static uint32_t plain_leg(const uint8_t *bytes, size_t n, size_t at, uint32_t *row) {
-    if (at >= n) return 0;
-    row[0] = bytes[at], row[3] = ABSENT;
-    if (row[0] < RIDE || row[0] > WALK || n - at < leg_size(row)) return 13;
-    const uint8_t *p = bytes + at + 1;
-    for (int i = 1; i < PARENT_WORDS; i++) {
-        if (i == 3 && row[0] != RIDE) continue;
-        row[i] = p[0] | (uint32_t)p[1] << 8 | (uint32_t)p[2] << 16 | (uint32_t)p[3] << 24, p += 4;
-    }
-    return (uint32_t)leg_size(row);
-}
 static uint32_t check_leg(const head *h, const uint8_t *bytes, size_t n, size_t at) {
     uint32_t row[PARENT_WORDS], *leg = block(4 * (size_t)h->leg, h->junk), *wanted = block(4 * (size_t)h->leg, h->junk);
-    uint32_t size = plain_leg(bytes, n, at, row), number = h->leg < PARENT_WORDS ? 6 : size, ours = kiosk_leg(bytes, n, at, leg, h->leg);
+    uint32_t size = get_leg(bytes, n, at, row), number = h->leg < PARENT_WORDS ? 6 : size, ours = kiosk_leg(bytes, n, at, leg, h->leg);
     uint8_t again[MOST_LEG];
     if (number > 13) memcpy(wanted, row, sizeof row);
     if (ours != number) fail("a leg's size", ours, number);
@@ -136,6 +127,25 @@ static __attribute__((noinline, no_sanitize("address"))) void spoil_stack(int ju
     uint8_t stack[1 << 14];
     memset(stack, junk, sizeof stack);
     __asm__ volatile("" :: "r"(stack) : "memory");      /* or else it would be left out */
+}
+
+/* Judges the bytes with the query, by one of the two functions: the number and all that is told are plain C's, and nothing else is written. Gives
+   whether it is a yes. */
+static int check_judge(judge *f, judge *plain, const uint32_t *tables, const uint32_t *copy, size_t len, const head *h, const void *bytes, size_t n) {
+    const query *q = &h->q;
+    uint8_t *there = block(n, 0);
+    uint64_t *told = block(8 * (size_t)h->told, h->junk), *wanted = block(8 * (size_t)h->told, h->junk);
+    memcpy(there, bytes, n);
+    uint32_t number = plain(copy, len, bytes, n, q->from_kind, q->from, q->to_kind, q->to, q->when, q->moment, q->walks, wanted, h->told);
+    spoil_stack(h->junk);
+    uint32_t ours = f(tables, len, there, n, q->from_kind, q->from, q->to_kind, q->to, q->when, q->moment, q->walks, told, h->told);
+    int right = number == 0 && wanted[0] == 1;
+    if (ours != number) fail("the number of a judged journey", ours, number);
+    if (memcmp(told, wanted, 8 * (size_t)h->told) != 0) fail("what is told of a judged journey", ours, number);
+    if (memcmp(there, bytes, n) != 0) fail("judged bytes are written", ours, number);
+    yes += right, no += number == 0 && !right;
+    free(there), free(told), free(wanted);
+    return right;
 }
 
 /* Asks twice, the second time with a workspace as the first has left it: each time all that is lent must be as wanted. */
@@ -184,8 +194,14 @@ int LLVMFuzzerTestOneInput(const uint8_t *data, size_t size) {
     else if (h->answer >= 5) memset(answer, 0, 20), answer[0] = number;
     check_search(kiosk_solve, tables, len, h, &wanted, number);
     if (accepted) check_search(kiosk_solve_checked, tables, len, h, &wanted, number);
+    if (number == 0) {
+        if (check_reading(h, wanted.at[JOURNEY], answer[4]) == 13) fail("a journey is not read back", 13, 0);
+        int ok = check_judge(kiosk_judge_checked, plain_judge_checked, tables, copy, len, h, wanted.at[JOURNEY], answer[4]);
+        if (!ok && h->told > 0 && (h->q.when == 0 || both_ways(copy, h->q.walks != 2))) fail("a journey is no yes", 0, 0);
+    }
+    check_judge(kiosk_judge, plain_judge, tables, copy, len, h, in.loose, h->loose);
+    if (accepted) check_judge(kiosk_judge_checked, plain_judge_checked, tables, copy, len, h, in.loose, h->loose);
     if (memcmp(tables, copy, 4 * len) != 0) fail("the tables are written", number, number);
-    if (number == 0 && check_reading(h, wanted.at[JOURNEY], answer[4]) == 13) fail("a journey is not read back", 13, 0);
     given[number]++, given[13] += check_reading(h, in.loose, h->loose) == 13;
 
     for (int i = 0; i < SLICES; i++) free(wanted.at[i]);
@@ -196,6 +212,32 @@ int LLVMFuzzerTestOneInput(const uint8_t *data, size_t size) {
 }
 
 /* ---- how an input is changed */
+
+/* The loose bytes are a journey of the query or along the tables, or the journey that they are is changed, with the query. */
+static void change_loose(input *in) {
+    static journey j;
+    static uint32_t words[94 * 512], places[2 * 512], answer[5];
+    static uint64_t marks[64];
+    static uint8_t bytes[MOST_LOOSE];
+    const uint32_t *w = in->word;
+    size_t len = in->bytes / 4, n = 0;
+    lent l = { .at = { words, marks, places, bytes, answer }, .len = { [JOURNEY] = sizeof bytes, [ANSWER] = 5 } };
+    uint32_t how = below_n(10);
+    if (plain_check(w, len) != 0 || stops_in(w) == 0) return;
+    right_lengths(w, l.len);
+    j.q = in->h.q;
+    if (how < 3) {
+        if (refusal(w, &in->h.q) || l.len[WORDS] > sizeof words / 4 || l.len[MARKS] > 64 || l.len[PLACES] > sizeof places / 4) return;
+        if (ask(plain_solve, w, len, &l, &in->h.q) == 0) n = answer[4];
+    } else {
+        uint32_t rides = range(1, 17), mode = in->h.q.mode;
+        if (how < 5) { if (!wander(w, rides, &j)) return; }
+        else if (!take_legs(&j, in->loose, in->h.loose)) return;
+        else change_journey(w, &j);
+        n = put_legs(&j, bytes), in->h.q = j.q, in->h.q.mode = mode;
+    }
+    memcpy(in->loose, bytes, in->h.loose = (uint16_t)n);
+}
 
 /* A new network and a query in it, and some legs. One in 16 is a city with marks of more than one word, or with routes about the limit; one
    in 64 has no stop. */
@@ -218,6 +260,7 @@ static void draw_input(input *in, uint64_t seed) {
         for (int i = 1; i < PARENT_WORDS; i++) row[i] = odd_word(100);
         put_leg(in->loose + in->h.loose, row), in->h.loose += (uint16_t)leg_size(row);
     }
+    if (seed % 2 == 0) for (int k = 0; k < 3; k++) change_loose(in);
 }
 
 /* A word of the query, most often one that means something in these tables. */
@@ -310,7 +353,8 @@ size_t LLVMFuzzerCustomMutator(uint8_t *data, size_t size, size_t most, unsigned
     else if (what < 77) change_row(&in);
     else if (what < 80) change_growth(&in);
     else if (what < 85) LLVMFuzzerMutate((uint8_t *)&in.h, sizeof in.h, sizeof in.h), in.h.loose = loose;
-    else if (what < 95) in.h.loose = (uint16_t)LLVMFuzzerMutate(in.loose, loose, MOST_LOOSE);
+    else if (what < 89) in.h.loose = (uint16_t)LLVMFuzzerMutate(in.loose, loose, MOST_LOOSE);
+    else if (what < 95) change_loose(&in);
     else if (what < 96) in.bytes = range(0, (uint32_t)in.bytes);
     else in.bytes = LLVMFuzzerMutate((uint8_t *)in.word, in.bytes, sizeof in.word);
     return join(&in, data, most);
@@ -324,13 +368,16 @@ size_t first_input(unsigned seed, uint8_t *data, size_t most) {
     return join(&in, data, most);
 }
 
-/* A length that is one word too long. */
+/* A length that is one word too long, or one byte. */
 void lie(const char *what) {
     static input in;
     draw_input(&in, 0);                 /* a city, whose last word is a trip's place */
     uint32_t *tables = block(in.bytes, 0), *cut = block(in.bytes - 4, 0), *room = block(8, 0);
+    uint8_t *leg = block(16, TRANSFER);
+    uint64_t told;
     memcpy(tables, in.word, in.bytes), memcpy(cut, in.word, in.bytes - 4);
     if (strcmp(what, "tables") == 0) kiosk_check(cut, in.bytes / 4);
     if (strcmp(what, "room") == 0) kiosk_room(tables, in.bytes / 4, room, 3);
-    free(tables), free(cut), free(room);
+    if (strcmp(what, "journey") == 0) kiosk_judge_checked(tables, in.bytes / 4, leg, 17, 0, 0, 0, 0, 0, 1, 0, &told, 1);
+    free(tables), free(cut), free(room), free(leg);
 }

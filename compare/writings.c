@@ -2,6 +2,7 @@
 #include <stdio.h>
 #include <stdlib.h>
 #include <string.h>
+#include "journeys.h"
 #include "lines.h"
 #include "rust.h"
 #include "writings.h"
@@ -101,6 +102,16 @@ static const char *short_differs(const flat *t, const query *q) {
     return what;
 }
 
+/* What was found is judged: a yes, by ours where it is there; of an arrival, where the footpaths are listed both ways. */
+static const char *verdict_differs(const flat *t, const query *q) {
+    uint64_t told = 0;
+    if (q->when == 1 && !both_ways(t->word, q->walks != KIOSK_WALKS_BARRED)) return NULL;
+    all.judged++;
+    uint32_t number = (has_ours ? our_judge_checked : plain_judge_checked)(t->word, t->len, journey_of(&all.plain), answer_of(&all.plain)[4],
+        q->from_kind, q->from, q->to_kind, q->to, q->when, q->moment, q->walks, &told, 1);
+    return number == 0 && told == 1 ? NULL : "a journey that was found gets no yes";
+}
+
 const char *differs(const flat *t, const query *q, int rust_too) {
     uint32_t number = refusal(t->word, q);
     const char *what = NULL;
@@ -111,6 +122,7 @@ const char *differs(const flat *t, const query *q, int rust_too) {
     }
     if (has_rust && rust_too && number == 0 && (what = rust_differs(q)) != NULL) return what;
     if (has_threads && rust_too && number == 0 && q->mode == 0 && (what = threads_differ(q)) != NULL) return what;
+    if (number == 0 && answer_of(&all.plain)[0] == 0 && (what = verdict_differs(t, q)) != NULL) return what;
     return both_ours_differ(t, q, number);
 }
 
@@ -123,6 +135,7 @@ void report(const char *what, const flat *t, const query *q) {
     print_query(q);
 }
 int print_differing(void) {
+    printf("; judged yes: %lu", all.judged);
     if (has_threads) printf("; over the real rayon %lu, %lu with other legs", all.with_threads, all.other_legs);
     printf("; %u differ\n", all.differing);
     return all.differing > 0;

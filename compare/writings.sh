@@ -47,6 +47,6 @@ build() {
         with=''
     fi
     [ "${OURS:-1}" = 0 ] || with="$with -DOURS $root/target/native/kiosk_c.o"
-    for f in absent writings drawn lines city dice network face; do set -- "$@" "$root/compare/$f.c"; done
-    cc -O3 -o "$out" "$@" "$root/plain/search.c" "$root/plain/check.c" $with -lm -lpthread -ldl
+    for f in absent writings drawn journeys lines city dice network face; do set -- "$@" "$root/compare/$f.c"; done
+    cc -O3 -o "$out" "$@" "$root/plain/search.c" "$root/plain/check.c" "$root/plain/judge.c" $with -lm -lpthread -ldl
 }

@@ -209,7 +209,7 @@ for name in sorted(n for n in ALONE if all(k in reached for k in LAW if k[1] == 
 
 # ==== the drawing of the crates
 # The columns of the house, each with the comments of crates.txt under which its crates stand.
-COLUMNS = [("the ground", ("",)), ("feeds", ("what operators",)), ("the tables", ("the tables",)), ("the search", ("the search",)), ("its faces", ("the hypotheses", "what C")), ("programs", ("programs", "what a person"))]
+COLUMNS = [("the ground", ("",)), ("feeds", ("what operators",)), ("the tables", ("the tables",)), ("the search", ("the search",)), ("handhelds", ("journeys that",)), ("its faces", ("the hypotheses", "what C")), ("programs", ("programs", "what a person"))]
 
 
 def floors():

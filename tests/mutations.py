@@ -272,6 +272,8 @@ MUTATIONS = [
     ("a hypothesis that nobody witnesses", witness_row_gone, True, PROMISES, "supposes Fair, and no witness is named"),
     ("files that are said to be read so, and are not shown", lambda: write(PAGE, re.sub(r"^\| `AllTaken`.*\n", "", read(PAGE), flags=re.M)), True, PROMISES, "taken-answered supposes AllTaken, and no witness is named"),
     ("a line more to be believed", lambda: sub("crates/model/specs/Spans.antt", "\nuse ", "\n-- one line more\nuse "), False, PROMISES, "what must be believed is not what is counted"),
+    ("an arrival query's footpaths that nobody lists both ways", lambda: write(PAGE, re.sub(r"^\| `Ways`.*\n", "", read(PAGE), flags=re.M)), True, PROMISES, "found-gets-yes supposes Ways, and no witness is named"),
+    ("a sentence of request 2 that is passed over", lambda: sub(LIST, "10.6 No legs is a no.", "10.6 No legs is a yes."), True, PROMISES, "the sentences are not those that were agreed"),
     ("a line more to be believed for a request", lambda: sub("crates/feed/specs/Refused.antt", "\nuse ", "\n-- one line more\nuse "), False, PROMISES, "what must be believed is not what is counted"),
     ("a file more to be believed", believed_unlisted, False, PROMISES, "what must be believed is not what is counted"),
     ("more taken from the kit", lambda: sub("crates/model/specs/Spans.antt", "\nuse ", "\nuse lib.Perm.{perm}\nuse "), False, PROMISES, "what is taken from the kit"),

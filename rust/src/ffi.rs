@@ -38,6 +38,22 @@ extern "C" {
 
     fn kiosk_leg(journey: *const u8, journey_len: usize, at: usize, leg: *mut u32, leg_len: usize) -> u32;
 
+    fn kiosk_judge_checked(
+        tables: *const u32,
+        tables_len: usize,
+        journey: *const u8,
+        journey_len: usize,
+        from_kind: u32,
+        from: u32,
+        to_kind: u32,
+        to: u32,
+        when: u32,
+        moment: u32,
+        walks: u32,
+        told: *mut u64,
+        told_len: usize,
+    ) -> u32;
+
     fn kiosk_gtfs_read(
         stop_times: *const u8,
         stop_times_len: usize,
@@ -168,6 +184,31 @@ impl<'a> Checked<'a> {
         let [first, time, stop, round, length] = answer;
         debug_assert_eq!(number, first, "the number is the answer's first word too");
         AnswerWords { number, time, stop, round, length }
+    }
+
+    /// Judges journey bytes: the number, and what is told. The query and the bytes may be any.
+    pub(crate) fn judge(self, bytes: &[u8], query: &QueryWords) -> (u32, u64) {
+        let mut told = [0; 1];
+        // SAFETY: each pointer goes with the length of its slice; the tables and the bytes are only read, and the word of `told` is ours.
+        // kiosk_check answered these words with 0, which is all that this function requires; they are borrowed since, so nobody changed them.
+        let number = unsafe {
+            kiosk_judge_checked(
+                self.0.as_ptr(),
+                self.0.len(),
+                bytes.as_ptr(),
+                bytes.len(),
+                query.from[0],
+                query.from[1],
+                query.to[0],
+                query.to[1],
+                query.when[0],
+                query.when[1],
+                query.walks,
+                told.as_mut_ptr(),
+                told.len(),
+            )
+        };
+        (number, told[0])
     }
 }
 

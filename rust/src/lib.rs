@@ -5,6 +5,7 @@ mod answer;
 mod ffi;
 pub mod gtfs;
 mod journey;
+mod judge;
 mod loader;
 pub mod names;
 mod numbers;
@@ -13,6 +14,7 @@ mod tables;
 
 pub use answer::{Answer, NoJourney, Refusal};
 pub use journey::{BadLeg, Journey, Leg, LegKind, Legs};
+pub use judge::JudgeError;
 pub use names::{DAY, MOST_JOURNEY, VERSION};
 pub use query::{Mode, Place, Query, Walks, When};
 pub use tables::{Tables, TablesError, Workspace};

@@ -10,7 +10,7 @@ pub const DAY: u32 = 86_400;
 pub const NO_TRIP: u32 = 4_294_967_295;
 
 // The numbers given back.
-/// A journey was found; the tables are good; the bytes are legs.
+/// A journey was found; the tables are good; the bytes are legs, or were judged.
 pub const FOUND: u32 = 0;
 /// A count over its limit, a route without a stop, a section of wrong length.
 pub const BAD_COUNT: u32 = 1;

@@ -2,6 +2,7 @@
 use crate::{
     answer::Answer,
     ffi::{Checked, Lent, Room},
+    judge::JudgeError,
     names::*,
     numbers::words_of,
     query::Query,
@@ -91,6 +92,22 @@ impl<'a> Tables<'a> {
         };
         let words = self.checked.solve(lent, &query.words());
         Answer::from_words(words, buffer)
+    }
+
+    /// Judges journey bytes, wherever they come from: whether they are a journey of the query in these tables. It searches nothing, and the query's mode
+    /// is not looked at.
+    ///
+    /// They are where there is a leg and 1 to 15 of the legs are rides; where each leg leaves from where the one before comes to, and no sooner; where each
+    /// ride fits an earlier and a later position of its trip, and each footpath one that is listed and lasts exactly its span, of its own kind, walks only
+    /// where the query does not bar them; and where the first leg leaves a stop that the query's first place stands for, the last one comes to one of the
+    /// second's. For [`When::Departure`](crate::When::Departure) the first leg is a ride and leaves at the moment or later; for
+    /// [`When::Arrival`](crate::When::Arrival) the last leg is a ride and comes at the moment or sooner. No leg at all is a no.
+    ///
+    /// What [`solve`](Tables::solve) writes gets a yes for its own query; where an arrival was asked for, if each footpath that the query allows is listed
+    /// the other way too, as the same kind and with the same span.
+    pub fn judge(&self, query: &Query, bytes: &[u8]) -> Result<bool, JudgeError> {
+        let (number, told) = self.checked.judge(bytes, &query.words());
+        JudgeError::verdict(number, told)
     }
 }
 

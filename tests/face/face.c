@@ -3,6 +3,7 @@
 #include "tables.h"
 #include "numbers.h"
 #include "wrappers.h"
+#include "judged.h"
 #include "nothing.h"
 #include "threads.h"
 #include "overlap.h"
@@ -15,6 +16,9 @@ int main(int argc, char **argv) {
     numbers(&n);
     words(&n, &m, &town);
     wrappers(&town, 8);
+    judged(&n);
+    judged_walks(&town);
+    judged_most(&far_away);
     nothing(&town);
     two_threads(&town, 8);
     overlap(&town);

@@ -112,6 +112,10 @@ check-is k w = (λ e. subst (λ (j : ℕ). Says j w) e (said w), λ h. sym (give
 pub accepted-is : (w : List ℕ) → (checkOf w ≡ 0) ↔ Accepted w
 accepted-is w = check-is 0 w
 
+-- as a caller of `check` knows it
+pub zero-accepted : (w : List ℕ) {c : ℕ} → c ≡ checkOf w → c ≡ 0 → Accepted w
+zero-accepted w e z = accepted-is w .0 (sym e ∙ z)
+
 -- it has no other number
 pub check-most : (w : List ℕ) → checkOf w ≤ 5
 check-most w = go (checkOf w) (check-is (checkOf w) w .0 refl)

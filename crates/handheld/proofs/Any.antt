@@ -55,9 +55,6 @@ module _ {A : Type 0} {f : A → Bool} {goal : Bool} where
   unfolding any
   sought-none h e = ap (any f) (sym e) ∙ h .rest
 
-pub sought-start : {A : Type 0} (f : A → Bool) (l : List A) → Sought f (any f l) l
-sought-start f l = record { rest = refl }
-
 -- ---- through the numbers from i up to b
 pub upto-step : (i b : ℕ) → i < b → upto (b - i) i ≡ i ∷ upto (b - (i + 1)) (i + 1)
 unfolding upto

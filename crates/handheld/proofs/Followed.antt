@@ -21,7 +21,7 @@ use Rattle.handheld.specs.declared.Onward.{Onward}
 use Rattle.handheld.specs.declared.Onward.the-variants.{To, Wrong}
 use Rattle.handheld.specs.Right.{Joined, done, by-ride, by-path, isRide, endsWithRide}
 use Rattle.handheld.specs.Fitting.{fitsRide, fitsLeg}
-use Rattle.handheld.specs.Verdict.{ridesWith, follows, led, onward, follow}
+use Rattle.handheld.specs.Verdict.{ridesWith, follows, led, legOn, follow}
 use Rattle.handheld.proofs.Legs.{both, ride-sound, ride-complete, walk-sound, walk-complete}
 
 wrong-to : {C : Type 0} {f : Led} → Wrong ≡ To f → C
@@ -29,19 +29,19 @@ wrong-to e = let z : _≡_ {A = ℕ} 0 1 = cc in absurd (omega arith)
 
 module _ (n : Net) (walking : Bool) where
   -- ---- one leg
-  onward-to : (g : Leg) (e : Led) → follows n walking g e ≡ true → onward n walking g e ≡ To (led g e)
-  unfolding onward
+  onward-to : (g : Leg) (e : Led) → follows n walking g e ≡ true → legOn n walking g e ≡ To (led g e)
+  unfolding legOn
   onward-to g e t = rw t
 
-  onward-wrong : (g : Leg) (e : Led) → follows n walking g e ≡ false → onward n walking g e ≡ Wrong
-  unfolding onward
+  onward-wrong : (g : Leg) (e : Led) → follows n walking g e ≡ false → legOn n walking g e ≡ Wrong
+  unfolding legOn
   onward-wrong g e t = rw t
 
-  pub follow-to : (g : Leg) (gs : List Leg) (e f : Led) → onward n walking g e ≡ To f → follow n walking (g ∷ gs) e ≡ follow n walking gs f
+  pub follow-to : (g : Leg) (gs : List Leg) (e f : Led) → legOn n walking g e ≡ To f → follow n walking (g ∷ gs) e ≡ follow n walking gs f
   unfolding follow
   follow-to g gs e f t = rw (t, follow)
 
-  pub follow-wrong : (g : Leg) (gs : List Leg) (e : Led) → onward n walking g e ≡ Wrong → follow n walking (g ∷ gs) e ≡ Wrong
+  pub follow-wrong : (g : Leg) (gs : List Leg) (e : Led) → legOn n walking g e ≡ Wrong → follow n walking (g ∷ gs) e ≡ Wrong
   unfolding follow
   follow-wrong g gs e t = rw (t, follow)
 
@@ -63,7 +63,7 @@ module _ (n : Net) (walking : Bool) where
       let d = fitsLeg n walking (g .kind) g in
       leb-true _ _ (and-left c d (and-right b (c && d) (and-right a (b && (c && d)) t)))
 
-  pub onward-few : (g : Leg) (e f : Led) → onward n walking g e ≡ To f → f .rides ≤ MOST-ROUNDS
+  pub onward-few : (g : Leg) (e f : Led) → legOn n walking g e ≡ To f → f .rides ≤ MOST-ROUNDS
   unfolding led
   onward-few g e f h =
       split (follows n walking g e)

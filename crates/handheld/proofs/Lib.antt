@@ -4,3 +4,4 @@ pub mod Legs
 pub mod Followed
 pub mod Decided
 pub mod Written
+pub mod Worked

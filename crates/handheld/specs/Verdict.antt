@@ -40,13 +40,13 @@ follows n walking g e =
 unfoldable pub led : Leg → Led → Led
 led g e = record { stop = g .to; moment = g .arrival .0; rides = ridesWith (g .kind) (e .rides); rode = isRide (g .kind) }
 
-unfoldable pub onward : Net → Bool → Leg → Led → Onward
-onward n walking g e = cond (follows n walking g e) (To (led g e)) Wrong
+unfoldable pub legOn : Net → Bool → Leg → Led → Onward
+legOn n walking g e = cond (follows n walking g e) (To (led g e)) Wrong
 
 -- where all of them lead
 unfoldable pub follow : Net → Bool → List Leg → Led → Onward
 follow n walking [] e = To e
-follow n walking (g ∷ gs) e = elim (onward n walking g e) [ To f ↦ follow n walking gs f | Wrong ↦ Wrong ]
+follow n walking (g ∷ gs) e = elim (legOn n walking g e) [ To f ↦ follow n walking gs f | Wrong ↦ Wrong ]
 
 -- "Departure journeys begin with a ride, arrival journeys end with one", and end by the moment that was asked
 unfoldable pub mayBegin : TimeConstraint → Leg → Bool

@@ -1,5 +1,5 @@
-// Journeys that handhelds send (request 2): what the depot is told of one, and how far its legs have led. What is right stands in specs/, what
-// is promised of it in proofs/; the code that decides it is in `judge`.
+// Journeys that handhelds send (request 2): what the depot is told of one, and how far its legs have led. What is right stands in
+// specs/, what is promised of it in proofs/; the code that decides it is in `judge`.
 
 // What the depot is told. `verdictNumber` of specs/Judged.antt has the number of each case.
 pub enum Verdict {

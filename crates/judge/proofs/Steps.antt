@@ -41,7 +41,7 @@ use Rattle.handheld.specs.Right.{isRide, soonest}
 use Rattle.handheld.specs.Verdict.{isListed, follow, mayBegin, mayEnd, atStart, comesIn, verdict}
 use Rattle.handheld.specs.Judged.{judgedAs, judged}
 use Rattle.judge_legs.specs.Reading.{followOn}
-use Rattle.judge.specs.Posed.{Posed, verdictOn}
+use Rattle.judge.specs.Places.{HasPlaces, verdictOn}
 
 -- ---- by the time that is asked
 module _ {time : TimeConstraint} {t : Time} (e : time ≡ Departure t) where
@@ -175,9 +175,6 @@ module _ (n : Net) (q : Query) (b : List ℕ) {r : LegRead} (e : r ≡ legFrom b
       rw (d, read-end)
 
 -- ---- what the depot is told
-pub zero-accepted : {w : List ℕ} {number : ℕ} → number ≡ checkOf w → number ≡ 0 → Accepted w
-zero-accepted {w} e z = (accepted-is w) .0 (sym e ∙ z)
-
 module _ (w : List ℕ) (q : Query) (b : List ℕ) where
   -- a fault of the tables comes first
   pub by-tables : {number : ℕ} → number ≡ checkOf w → number ≢ 0 → Refused number ≡ judged (checkOf w) (netOf w) q b
@@ -189,7 +186,7 @@ module _ (w : List ℕ) (q : Query) (b : List ℕ) where
       go (suc k) e z = rw (← e)
 
   module _ (ok : Accepted w) {number : ℕ} (e : number ≡ refusal (netOf w) q) where
-    pub posed : number ≡ 0 → Posed w q
+    pub posed : number ≡ 0 → HasPlaces w q
     posed z = let p = passed (netOf w) q (sym e ∙ z) in record { known = ok; from = p .from; to = p .to }
 
     no-fault : checkOf w ≡ 0

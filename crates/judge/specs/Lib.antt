@@ -1,2 +1,2 @@
 -- The definitions that the contracts of `judge` cite. What is promised of it stands in `handheld`.
-pub mod Posed
+pub mod Places

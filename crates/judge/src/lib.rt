@@ -1,5 +1,5 @@
-// Whether the legs that a handheld sent are a journey that the query asks for: a yes or no from tables, query and bytes. Nothing is written, and
-// no workspace is asked for.
+// Whether the legs that a handheld sent are a journey that the query asks for: a yes or no from tables, query and bytes. Nothing is
+// written, and no workspace is asked for.
 ghost use mathlib.Core.Path.{_≡_};
 ghost use mathlib.Core.Bool.{true};
 ghost use Rattle.model.specs.Bytes.{read};
@@ -12,7 +12,7 @@ ghost use Rattle.journey.specs.Reading.{legFrom};
 ghost use Rattle.handheld.specs.Right.{soonest as soonestOf};
 ghost use Rattle.handheld.specs.Verdict.{mayBegin, mayEnd, comesIn};
 ghost use Rattle.handheld.specs.Judged.{judged};
-ghost use Rattle.judge.specs.Posed.{Posed, verdictOn};
+ghost use Rattle.judge.specs.Places.{HasPlaces, verdictOn};
 use handheld::Led;
 use handheld::Onward;
 use handheld::Verdict;
@@ -62,7 +62,7 @@ fn may_end(time: TimeConstraint, e: Led) -> bool
 
 // Whether the legs lead to a destination, and may end there.
 fn comes_in(tables: &[u32], q: Query, o: Onward) -> bool
-    requires { ⌜ Posed (now tables) q ⌝ }
+    requires { ⌜ HasPlaces (now tables) q ⌝ }
     ensures { λ ok. ⌜ ok ≡ comesIn (netOf (now (tables .entry))) q o ⌝ }
 {
     match o {
@@ -80,7 +80,7 @@ fn comes_in(tables: &[u32], q: Query, o: Onward) -> bool
 
 // Whether the legs are right, of which g is the first.
 fn is_right_from(tables: &[u32], bytes: &[u8], q: Query, g: Leg) -> bool
-    requires { ⌜ Posed (now tables) q ⌝ }
+    requires { ⌜ HasPlaces (now tables) q ⌝ }
     requires { ⌜ legFrom (now bytes) 0 ≡ Whole g ⌝ }
     ensures { λ ok. ⌜ ok ≡ verdictOn (netOf (now (tables .entry))) q (read (now (bytes .entry))) ⌝ }
 {
@@ -105,7 +105,7 @@ fn is_right_from(tables: &[u32], bytes: &[u8], q: Query, g: Leg) -> bool
 
 // Whether the bytes are legs that are right. No legs are not.
 fn is_right(tables: &[u32], bytes: &[u8], q: Query) -> bool
-    requires { ⌜ Posed (now tables) q ⌝ }
+    requires { ⌜ HasPlaces (now tables) q ⌝ }
     ensures { λ ok. ⌜ ok ≡ verdictOn (netOf (now (tables .entry))) q (read (now (bytes .entry))) ⌝ }
 {
     let first = reader::leg_at(bytes, 0);

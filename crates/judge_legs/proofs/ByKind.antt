@@ -16,7 +16,7 @@ use Rattle.handheld.specs.declared.Onward.{Onward}
 use Rattle.handheld.specs.declared.Onward.the-variants.{To, Wrong}
 use Rattle.handheld.specs.Right.{isRide}
 use Rattle.handheld.specs.Fitting.{fitsRide, fitsPath, fitsLeg}
-use Rattle.handheld.specs.Verdict.{ridesWith, follows, led, onward}
+use Rattle.handheld.specs.Verdict.{ridesWith, follows, led, legOn}
 use Rattle.judge_paths.specs.Paths.{pathsOf}
 
 module _ {kind : LegType} {v : ℕ} (e : kind ≡ Transit v) where
@@ -96,13 +96,13 @@ module _ (n : Net) (walking : Bool) (g : Leg) (e : Led) where
 
 -- ---- where it leads
 module _ (n : Net) (walking : Bool) (g : Leg) (e : Led) {x : Bool} (f : x ≡ follows n walking g e) where
-  pub leads-wrong : x ≡ false → Wrong ≡ onward n walking g e
-  unfolding onward
+  pub leads-wrong : x ≡ false → Wrong ≡ legOn n walking g e
+  unfolding legOn
   leads-wrong t = rw (sym f ∙ t)
 
   pub leads-to : {kind : LegType} {k : ℕ} {b : Bool} → x ≡ true → kind ≡ g .kind → k ≡ ridesWith kind (e .rides) → b ≡ isRide kind
-      → To (record { stop = g .to; moment = g .arrival .0; rides = k; rode = b }) ≡ onward n walking g e
-  unfolding onward led
+      → To (record { stop = g .to; moment = g .arrival .0; rides = k; rode = b }) ≡ legOn n walking g e
+  unfolding legOn led
   leads-to {kind} {k} {b} t q c d =
       let k′ : k ≡ ridesWith (g .kind) (e .rides) = c ∙ ap (λ (z : LegType). ridesWith z (e .rides)) q in
       let b′ : b ≡ isRide (g .kind) = d ∙ ap isRide q in

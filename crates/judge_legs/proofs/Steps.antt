@@ -19,18 +19,18 @@ use Rattle.journey.proofs.Told.{told-whole, told-bad, told-end, next-fits}
 use Rattle.handheld.specs.declared.Led.{Led}
 use Rattle.handheld.specs.declared.Onward.{Onward}
 use Rattle.handheld.specs.declared.Onward.the-variants.{To, Wrong}
-use Rattle.handheld.specs.Verdict.{onward, follow}
+use Rattle.handheld.specs.Verdict.{legOn, follow}
 use Rattle.handheld.proofs.Followed.{follow-to, follow-wrong, onward-few}
 use Rattle.judge_legs.specs.Reading.{followOn}
 
 -- a leg in front
-before-to : (n : Net) (walking : Bool) (g : Leg) (r : Read) (e f : Led) → onward n walking g e ≡ To f
+before-to : (n : Net) (walking : Bool) (g : Leg) (r : Read) (e f : Led) → legOn n walking g e ≡ To f
     → followOn n walking (before g r) e ≡ followOn n walking r f
 unfolding followOn before
 before-to n walking g (legs gs) e f t = follow-to n walking g gs e f t
 before-to n walking g (bad o) e f t = refl
 
-before-wrong : (n : Net) (walking : Bool) (g : Leg) (r : Read) (e : Led) → onward n walking g e ≡ Wrong
+before-wrong : (n : Net) (walking : Bool) (g : Leg) (r : Read) (e : Led) → legOn n walking g e ≡ Wrong
     → followOn n walking (before g r) e ≡ Wrong
 unfolding followOn before
 before-wrong n walking g (legs gs) e t = follow-wrong n walking g gs e t
@@ -52,7 +52,7 @@ following-start n walking b e h =
 
 module _ {n : Net} {walking : Bool} {b : List ℕ} {goal : Onward} {at : ℕ} {e : Led} (h : Following n walking b goal at e)
     {r : LegRead} (q : r ≡ legFrom b at) where
-  module _ {g : Leg} (w : r ≡ Whole g) {o : Onward} (p : o ≡ onward n walking g e) where
+  module _ {g : Leg} (w : r ≡ Whole g) {o : Onward} (p : o ≡ legOn n walking g e) where
     -- one leg more is needed than there was fuel for without it
     on-from : (f : ℕ) → h .fuel ≡ f → 0 < f
         → followOn n walking (before g (readFrom (f - 1) (at + legSize (g .kind)) (drop (legSize (g .kind)) (drop at b)))) e ≡ goal

@@ -7,7 +7,7 @@ ghost use Rattle.repository.specs.Accepted.{Accepted};
 ghost use Rattle.repository.specs.NetOf.{netOf};
 ghost use Rattle.handheld.specs.Right.{isRide};
 ghost use Rattle.handheld.specs.Fitting.{fitsLeg};
-ghost use Rattle.handheld.specs.Verdict.{ridesWith, follows as mayFollow, onward as onwardOf};
+ghost use Rattle.handheld.specs.Verdict.{ridesWith, follows as mayFollow, legOn};
 ghost use Rattle.judge_legs.specs.Reading.{followOn};
 use handheld::Led;
 use handheld::Onward;
@@ -80,7 +80,7 @@ fn follows(tables: &[u32], walking: bool, g: Leg, e: Led) -> bool
 fn onward(tables: &[u32], walking: bool, g: Leg, e: Led) -> Onward
     requires { ⌜ Accepted (now tables) ⌝ }
     requires { ⌜ e .rides ≤ MOST-ROUNDS ⌝ }
-    ensures { λ o. ⌜ o ≡ onwardOf (netOf (now (tables .entry))) walking g e ⌝ }
+    ensures { λ o. ⌜ o ≡ legOn (netOf (now (tables .entry))) walking g e ⌝ }
 {
     if follows(tables, walking, g, e) {
         let kind = g.kind;

@@ -22,7 +22,7 @@ use Rattle.repository.proofs.Trips.{trip-known, stands}
 use Rattle.repository.proofs.Standing.{standing-in, standing-trip-of, standing-only}
 use Rattle.handheld.specs.Any.{any, Sought}
 use Rattle.handheld.specs.Fitting.{leavesAt, comesAt, comesFrom, fitsFrom, fitsTrip, fitsRide}
-use Rattle.handheld.proofs.Any.{any-at, any-is, same-test, sought-start, sought-next, upto-step, upto-in, upto-has}
+use Rattle.handheld.proofs.Any.{any-at, any-is, same-test, sought-next, upto-step, upto-in, upto-has}
 use Rattle.handheld.proofs.Legs.{both, comes-sound, comes-complete, ride-at, ride-is}
 use Rattle.judge_rides.specs.Ridable.{Ridable, RidableAt}
 

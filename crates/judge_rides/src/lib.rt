@@ -45,8 +45,8 @@ fn comes_from(tables: &[u32], r: u32, v: u32, g: Leg, from: u32) -> bool
     false
 }
 
-// Whether some earlier and later position of the trip fit the leg. Behind the first position that it may leave from come all those that it may
-// come to behind a later one: the others need not be looked at.
+// Whether some earlier and later position of the trip fit the leg. Behind the first position that it may leave from come all those
+// that it may come to behind a later one: the others need not be looked at.
 fn fits_trip(tables: &[u32], r: u32, v: u32, g: Leg) -> bool
     requires { ⌜ Ridable (now tables) r v ⌝ }
     ensures { λ ok. ⌜ ok ≡ fitsTrip (netOf (now (tables .entry))) r v g ⌝ }

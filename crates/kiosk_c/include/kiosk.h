@@ -1,7 +1,7 @@
-/* The C face of the kiosk search: it asks for journeys in tables that a loader wrote, and reads the legs of a journey. For C99 and C++11 and
-   later.
+/* The C face of the kiosk search: it asks for journeys in tables that a loader wrote, reads the legs of a journey, and judges journeys that come from
+   elsewhere. For C99 and C++11 and later.
 
-   The six functions under "The functions" are what is proved. Those under "The same with structs" are plain C over them: tested
+   The eight functions under "The functions" are what is proved. Those under "The same with structs" are plain C over them: tested
    (tests/face.sh), not proved.
 
    What a caller owes. The proof is of calls that keep this; of others it says nothing.
@@ -48,7 +48,7 @@ extern "C" {
 
 /* The numbers given back. The lowest that applies is given. */
 enum kiosk_number {
-    KIOSK_FOUND = 0,                    /* a journey was found; the tables are good; the bytes are legs */
+    KIOSK_FOUND = 0,                    /* a journey was found; the tables are good; the bytes are legs, or were judged */
     KIOSK_BAD_COUNT = 1,                /* a count over its limit, a route without a stop, a section of wrong length */
     KIOSK_BAD_LISTING = 2,              /* an index out of range, or a list that breaks a listing rule */
     KIOSK_BAD_TIMETABLE = 3,            /* a timetable moment outside 1 to 1,000,000, or moments of a trip that fall */
@@ -108,6 +108,33 @@ uint32_t kiosk_read(const uint8_t *journey, size_t journey_len, uint64_t *told, 
    trip (KIOSK_NO_TRIP for a footpath), departure, arrival. Or 0 where no byte is left there, 13 for an unknown kind or a cut body, 6 where leg_len
    is below 6; then nothing is written. */
 uint32_t kiosk_leg(const uint8_t *journey, size_t journey_len, size_t at, uint32_t *leg, size_t leg_len);
+
+/* Judges journey bytes, wherever they come from: whether they are a journey of the query in these tables. It checks everything first; it searches
+   nothing, and asks for no workspace. The query has no mode, since the mode says how to search.
+
+   0: told[0] is 1 for yes, 0 for no. 13: the bytes are not legs, and told[0] is the offset of the bad leg's first byte, as kiosk_read tells it.
+   1 to 5, 7, 8 and 9 as kiosk_solve gives them, and then nothing is written. Where told_len is 0 nothing is written, and the number is the tables'
+   own, or 6. Bad bytes behind a wrong leg are a 13, not a no.
+
+   Yes where all of this holds, and no otherwise:
+   - there is a leg, and 1 to 15 of the legs are rides;
+   - each leg but the first leaves the stop that the leg before comes to, and no sooner than that one comes;
+   - a ride names a trip of the tables, and some position of the trip and a later one fit: the stop and the departure at the one, the stop and the
+     arrival at the other;
+   - a transfer is one that is listed from its first stop to its second, and lasts exactly the span; so does a walk, and the query does not bar walks;
+   - the first leg leaves a stop that the query's `from` stands for, the last comes to one that its `to` stands for;
+   - for a departure, the first leg is a ride, and leaves at the moment or later; for an arrival, the last leg is a ride, and comes at the moment or
+     sooner.
+   An answer's time, stop and round are not asked for. What kiosk_solve writes on 0 gets a yes for its own query; that of an arrival does where each
+   footpath that the query allows is listed the other way too, as the same kind and with the same span. */
+uint32_t kiosk_judge(const uint32_t *tables, size_t tables_len, const uint8_t *journey, size_t journey_len,
+                     uint32_t from_kind, uint32_t from, uint32_t to_kind, uint32_t to, uint32_t when, uint32_t moment,
+                     uint32_t walks, uint64_t *told, size_t told_len);
+
+/* The same without the check: only for tables that kiosk_check answered with 0 and that were not changed since. */
+uint32_t kiosk_judge_checked(const uint32_t *tables, size_t tables_len, const uint8_t *journey, size_t journey_len,
+                             uint32_t from_kind, uint32_t from, uint32_t to_kind, uint32_t to, uint32_t when, uint32_t moment,
+                             uint32_t walks, uint64_t *told, size_t told_len);
 
 /* ==== The same with structs */
 
@@ -211,6 +238,27 @@ static inline int kiosk_next_leg(const uint8_t *journey, size_t journey_len, siz
     leg->arrival = told[5];
     *at += size;
     return 1;
+}
+
+/* kiosk_judge: where the number is 0, *right is 1 where the bytes are a journey of the query, else 0; otherwise it stays as it was. The query's
+   mode is not looked at. Of bytes that are no legs, 13, kiosk_read tells where. */
+static inline uint32_t kiosk_is_journey(const uint32_t *tables, size_t tables_len, const uint8_t *journey, size_t journey_len, const kiosk_query *q,
+                                        int *right) {
+    uint64_t told[1];
+    uint32_t number = kiosk_judge(tables, tables_len, journey, journey_len, q->from_kind, q->from, q->to_kind, q->to, q->when, q->moment, q->walks,
+                                  told, 1);
+    if (number == KIOSK_FOUND) *right = told[0] == 1;
+    return number;
+}
+
+/* kiosk_judge_checked, alike. */
+static inline uint32_t kiosk_is_journey_checked(const uint32_t *tables, size_t tables_len, const uint8_t *journey, size_t journey_len,
+                                                const kiosk_query *q, int *right) {
+    uint64_t told[1];
+    uint32_t number = kiosk_judge_checked(tables, tables_len, journey, journey_len, q->from_kind, q->from, q->to_kind, q->to, q->when, q->moment,
+                                          q->walks, told, 1);
+    if (number == KIOSK_FOUND) *right = told[0] == 1;
+    return number;
 }
 
 #ifdef __cplusplus

@@ -33,8 +33,8 @@ fn tell_verdict(told: &mut [u64], v: Verdict) -> u32
     }
 }
 
-// Whether journey bytes are a journey that the query asks for: 0, and 1 is told for yes, 0 for no; 13, and the offset of the bad leg's first
-// byte is told; 1 to 5, 7, 8, 9. Where there is no word to tell it in, the tables' own number, or 6.
+// Whether journey bytes are a journey that the query asks for: 0, and 1 is told for yes, 0 for no; 13, and the offset of the bad leg's
+// first byte is told; 1 to 5, 7, 8, 9. Where there is no word to tell it in, the tables' own number, or 6.
 #[no_mangle]
 pub extern "C" fn kiosk_judge(
     tables: &[u32],

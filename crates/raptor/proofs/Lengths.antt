@@ -13,7 +13,7 @@ use Rattle.repository.specs.Accepted.{Accepted}
 use Rattle.repository.specs.NetOf.{netOf}
 use Rattle.repository.specs.Checked.{checkOf}
 use Rattle.repository.proofs.Ranges.{stops-few, routes-few}
-use Rattle.check_tables.proofs.Whole.{accepted-is}
+use Rattle.check_tables.proofs.Whole.{zero-accepted}
 use Rattle.allocator.specs.Layout.{wordsRoom, marksRoom, Sized}
 use Rattle.allocator.proofs.Roomy.{sized-of}
 use Rattle.raptor.specs.declared.Needed.{Needed}
@@ -24,11 +24,8 @@ use Rattle.raptor.specs.Rooms.{roomBy, roomOf}
 -- ---- the tables
 
 module _ (w : List ℕ) {c : ℕ} (e : c ≡ checkOf w) where
-  pub zero-accepted : c ≡ 0 → Accepted w
-  zero-accepted z = accepted-is w .0 (sym e ∙ z)
-
   pub zero-laid : c ≡ 0 → Laid w
-  zero-laid z = zero-accepted z .laid
+  zero-laid z = zero-accepted w e z .laid
 
   pub lengths-told : {stops routes a b : ℕ} → c ≡ 0 → stops ≡ netOf w .stops → routes ≡ netOf w .routes → a ≡ wordsRoom stops routes → b ≡ marksRoom stops routes
       → Lengths a b (stops + stops) ≡ roomOf w

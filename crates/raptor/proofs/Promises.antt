@@ -256,6 +256,13 @@ module _ (w : List ℕ) (q : Query) (before : Lent) {r : Answer} {after : Lent} 
     size : length (write (legsOf (netOf w) q)) ≡ z
     size = size-is (legsOf (netOf w) q) ∙ sym (is-found .length-is)
 
+    -- nothing refused it, and a stop was chosen
+    pub found-accepted : (checkOf w ≡ 0) × (refusal (netOf w) q ≡ 0)
+    found-accepted = (fault-none (checkOf w) (sized (netOf w) before) (netOf w) q (none-refused (ap ran e)), unrefused-query (ap ran e))
+
+    pub found-chosen : 0 < (searched (netOf w) q) .times .target .time .0
+    found-chosen = is-found .chosen
+
     -- the first bytes, as many as the length says, are the journey's ..
     pub journey-bytes : take z (after .journey) ≡ write (legsOf (netOf w) q)
     journey-bytes = ap (take z) left ∙ take-at (write (legsOf (netOf w) q)) _ z size

@@ -1,3 +1,2 @@
--- Laws on a part of a slice, and on tables that are accepted.
+-- Laws on a part of a slice.
 pub mod Parts
-pub mod Tables

@@ -71,8 +71,8 @@ fn of_header(header: &str, name: &str) -> Vec<String> {
 
 #[test]
 fn the_same_functions() {
-    let search =
-        ["kiosk_check", "kiosk_room", "kiosk_solve_checked", "kiosk_read", "kiosk_leg"].map(|name| (HEADER, name));
+    let search = ["kiosk_check", "kiosk_room", "kiosk_solve_checked", "kiosk_read", "kiosk_leg", "kiosk_judge_checked"]
+        .map(|name| (HEADER, name));
     let feeds =
         ["kiosk_gtfs_read", "kiosk_gtfs_write_times", "kiosk_gtfs_write_transfers"].map(|name| (GTFS_HEADER, name));
     for (header, name) in search.into_iter().chain(feeds) {
@@ -82,5 +82,6 @@ fn the_same_functions() {
         assert_eq!(here, of_header(header, name), "{name}");
     }
     assert_eq!(of_header(HEADER, "kiosk_solve"), of_header(HEADER, "kiosk_solve_checked"));
-    assert_eq!(FFI.matches("    fn kiosk_").count(), 8);
+    assert_eq!(of_header(HEADER, "kiosk_judge"), of_header(HEADER, "kiosk_judge_checked"));
+    assert_eq!(FFI.matches("    fn kiosk_").count(), 9);
 }

@@ -4,7 +4,7 @@ use crate::network::n;
 use kiosk::{BadLeg, Journey, Leg, LegKind, Tables, Workspace};
 
 /// N1's 59 bytes: a ride, a transfer from offset 21 on, a ride from 38 on.
-fn n1_bytes() -> Vec<u8> {
+pub fn n1_bytes() -> Vec<u8> {
     let words = n().words();
     let tables = Tables::check(&words).unwrap();
     let mut buffer = [0; 59];
@@ -14,7 +14,7 @@ fn n1_bytes() -> Vec<u8> {
 }
 
 /// A leg's bytes by document 01, written apart from the crate.
-fn bytes_of(leg: &Leg) -> Vec<u8> {
+pub fn bytes_of(leg: &Leg) -> Vec<u8> {
     let (kind, trip) = match leg.kind {
         LegKind::Ride { trip } => (1, Some(trip)),
         LegKind::Transfer => (2, None),

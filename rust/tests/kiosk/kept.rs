@@ -1,5 +1,6 @@
 //! The Rust's kept answers (oracle/README.md has the form of the lines): every query asked through this crate.
 use crate::ask::{ask_with, Given};
+use crate::journeys::bytes_of;
 use crate::network::{m, n, n_both_ways};
 use kiosk::{LegKind, Place, Query, Tables, Walks, When, Workspace};
 use std::fmt::Write;
@@ -51,6 +52,7 @@ fn all_kept_answers() {
     let (cases, answers) = (read("cases.txt"), read("answers.txt"));
     let mut answers = answers.lines();
     let mut asked = 0;
+    let mut judged = 0;
     let mut network = vec![];
     for case in cases.lines() {
         if let Some(net) = case.strip_prefix("net ") {
@@ -61,9 +63,16 @@ fn all_kept_answers() {
             let given = ask_with(&tables, &mut workspace, 4096, &query(asks));
             assert_eq!(Some(line(&given).as_str()), answers.next(), "{asks} on {network:?}");
             asked += 1;
+            // what it found is a journey; of arrivals that is said only where footpaths are listed both ways (compare/judge.sh)
+            if given.number == 0 && asks.contains(" d ") {
+                let bytes: Vec<u8> = given.legs.iter().flat_map(bytes_of).collect();
+                assert_eq!(tables.judge(&query(asks), &bytes), Ok(true), "{asks} on {network:?}");
+                judged += 1;
+            }
         }
     }
     assert_eq!((asked, answers.next()), (7855, None));
+    assert!(judged > 2000, "{judged}");
 }
 
 /// The words that these tests write are those that the list has for the same networks.

@@ -1,6 +1,7 @@
 -- `judge`: refused by the tables, or judged.
 use borrow.Author.Needs.{needs}
-use Rattle.judge.proofs.Steps.{zero-accepted, by-tables}
+use Rattle.check_tables.proofs.Whole.{zero-accepted}
+use Rattle.judge.proofs.Steps.{by-tables}
 use Rattle.judge.proofs.judge.Statement.{statement}
 use Rattle.judge.proofs.judge.Tie as tie
 

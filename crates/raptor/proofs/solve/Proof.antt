@@ -1,6 +1,6 @@
 -- `raptor::solve` meets its contract: refused by the tables, or solved.
 use borrow.Author.Needs.{needs}
-use Rattle.raptor.proofs.Lengths.{zero-accepted}
+use Rattle.check_tables.proofs.Whole.{zero-accepted}
 use Rattle.raptor.proofs.Answered.{by-tables}
 use Rattle.raptor.proofs.solve.Statement.{statement}
 use Rattle.raptor.proofs.solve.Tie as tie

@@ -1,6 +1,6 @@
 -- `refusing::meant::print_missing`: what the check answers with 0 is accepted.
 use borrow.Author.Needs.{needs}
-use Rattle.refusing.proofs.Tables.{zero-accepted}
+use Rattle.check_tables.proofs.Whole.{zero-accepted}
 use Rattle.refusing.proofs.meant.print_missing.Statement.{statement}
 use Rattle.refusing.proofs.meant.print_missing.Tie as tie
 

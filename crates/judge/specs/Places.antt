@@ -12,7 +12,7 @@ use Rattle.repository.specs.NetOf.{netOf}
 use Rattle.handheld.specs.Verdict.{verdict}
 
 -- the tables are accepted and have the query's two places
-pub record Posed (w : List ℕ) (q : Query) : Type 0 where
+pub record HasPlaces (w : List ℕ) (q : Query) : Type 0 where
   pub known : Accepted w
   pub from : exists (netOf w) (q .from) ≡ true
   pub to : exists (netOf w) (q .to) ≡ true
