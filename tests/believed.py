@@ -30,7 +30,7 @@ SAYS = {
     "judge_rides": "a trip in the route that it stands in",
     "reader": "where a reader stands behind what it has read",
     "arguments": "what the arguments of the programs say",
-    "checkjourney": "what is printed of a verdict",
+    "verdict_line": "what is printed of a verdict",
     "questions": "the query that the arguments' parts are",
     "check_listing": "the rules of number 2 as its code tests them",
     "marks": "64 stops to a word",

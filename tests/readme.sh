@@ -13,15 +13,14 @@ stands() {
 }
 ./kiosk 0 4 depart 50 >"$room/said"
 stands
-./kiosk 0 4 depart 50 bytes | ./checkjourney 0 4 depart 50 >"$room/checked"
 tools/drawing.py --asked 50 examples/N.txt <"$room/said" >"$room/N1.svg"
 cmp "$room/N1.svg" docs/N1.svg
-mv "$room/checked" "$room/said"
-stands
 tools/timetable.py examples/town.txt >"$room/town.net"
 tools/fault.py "$room/town.net" >"$room/said"
 stands
 ./kiosk 1 7 depart 6:55:00 tables:"$room/town.net" >"$room/said"
+stands
+./kiosk 0 4 depart 50 bytes | ./checkjourney 0 4 depart 50 >"$room/said"
 stands
 rust/library.sh >/dev/null
 (cd rust && CARGO_TARGET_DIR=../target/rust cargo run --offline --quiet --example gtfs -- ../examples/feed 'Harbour, east' Hill depart 7:50:00) >"$room/said"

@@ -1,3 +1,2 @@
--- The laws of `checkjourney`.
-pub mod Printed
+-- A law on a part of a slice.
 pub mod Parts

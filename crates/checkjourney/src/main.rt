@@ -1,7 +1,5 @@
 // Says whether the journey bytes on standard input are a journey that the query asks for: `yes` or `no`; `bad` and the offset of the bad
 // leg's first byte, where they are no legs; or the number of a refusal and what it means. The buffers of the program take 59 KiB in all.
-mod line; // line.rt: the line that is printed of a verdict
-
 use handheld::Verdict;
 use input::Input;
 use network::Loaded;
@@ -18,7 +16,7 @@ fn tell(tables: &[u32], path: &[u8], bytes: &[u8], asked: Question)
     let mut text = [0u8; 16];
     let q = asked.query;
     let v = judge::judge(tables, bytes, q);
-    let n = line::write_line(v, &mut text);
+    let n = verdict_line::write_line(v, &mut text);
     let shown = io::count(n as isize, &text);
     print::text(&text[..shown]);
     if let Verdict::Refused(number) = v {

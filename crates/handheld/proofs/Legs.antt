@@ -53,13 +53,18 @@ module _ (n : Net) (r v : ℕ) (g : Leg) where
       let b = m .0 in
       let l = and-left (leavesAt n r v g b) (comesFrom n r v g (suc b)) (m .2) in
       let c = comes-sound (suc b) (and-right (leavesAt n r v g b) (comesFrom n r v g (suc b)) (m .2)) in
-      let a = c .0 in
-      (b, a, omega (arith, c .1), c .2, record {
-        from = eqb-true (n .stopAt r b) (g .from) (and-left _ (eqb (n .departure v b) (g .departure .0)) l);
-        departure = eqb-true (n .departure v b) (g .departure .0) (and-right (eqb (n .stopAt r b) (g .from)) _ l);
-        to = eqb-true (n .stopAt r a) (g .to) (and-left _ (eqb (n .arrival v a) (g .arrival .0)) (c .3));
-        arrival = eqb-true (n .arrival v a) (g .arrival .0) (and-right (eqb (n .stopAt r a) (g .to)) _ (c .3));
-      })
+      let a = c .0 in (
+        b,
+        a,
+        omega (arith, c .1),
+        c .2,
+        record {
+          from = eqb-true (n .stopAt r b) (g .from) (and-left _ (eqb (n .departure v b) (g .departure .0)) l);
+          departure = eqb-true (n .departure v b) (g .departure .0) (and-right (eqb (n .stopAt r b) (g .from)) _ l);
+          to = eqb-true (n .stopAt r a) (g .to) (and-left _ (eqb (n .arrival v a) (g .arrival .0)) (c .3));
+          arrival = eqb-true (n .arrival v a) (g .arrival .0) (and-right (eqb (n .stopAt r a) (g .to)) _ (c .3));
+        },
+      )
 
   trip-complete : (b a : ℕ) → b < a → a < n .positions r → FitsAt n r v g b a → fitsTrip n r v g ≡ true
   unfolding fitsTrip fitsFrom leavesAt comesAt
@@ -77,9 +82,14 @@ module _ (n : Net) (v : ℕ) (g : Leg) where
       let m = any-at (fitsRoute n v g) (upto (n .routes) 0) e in
       let r = m .0 in
       let s = any (standsAt n r v) (upto (n .trips r) 0) in
-      let p = any-at (standsAt n r v) (upto (n .trips r) 0) (and-left s (fitsTrip n r v g) (m .2)) in
-      (r, p .0, omega (arith, upto-in (n .routes) 0 (m .1) .1), omega (arith, upto-in (n .trips r) 0 (p .1) .1),
-      eqb-true (n .tripAt r (p .0)) v (p .2), and-right s (fitsTrip n r v g) (m .2))
+      let p = any-at (standsAt n r v) (upto (n .trips r) 0) (and-left s (fitsTrip n r v g) (m .2)) in (
+        r,
+        p .0,
+        omega (arith, upto-in (n .routes) 0 (m .1) .1),
+        omega (arith, upto-in (n .trips r) 0 (p .1) .1),
+        eqb-true (n .tripAt r (p .0)) v (p .2),
+        and-right s (fitsTrip n r v g) (m .2),
+      )
 
   pub ride-is : (r i : ℕ) → r < n .routes → i < n .trips r → n .tripAt r i ≡ v → fitsTrip n r v g ≡ true → fitsRide n v g ≡ true
   unfolding fitsRide fitsRoute standsAt

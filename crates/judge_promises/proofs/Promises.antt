@@ -89,6 +89,7 @@ module _ (w : List ℕ) (q : Query) (b : List ℕ) where
       by-read : number ≡ 0 → (r : Read) → read b ≡ r → C
       by-read e (legs gs) f = legs′ gs e f (sym t ∙ as-legs gs e f)
       by-read e (bad o) f = bytes o e f (sym t ∙ unrefused e ∙ ap (judgedAs (netOf w) q) f)
+
       go : (k : ℕ) → number ≡ k → C
       go zero e = by-read e (read b) refl
       go (suc k) e = refused k e (sym t ∙ by-number ∙ ap (unless Refused (judgedAs (netOf w) q (read b))) e)

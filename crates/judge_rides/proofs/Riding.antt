@@ -89,6 +89,7 @@ module _ (n : Net) (r v : ℕ) (g : Leg) {len : ℕ} (e : len ≡ n .positions r
       where
         on : comesFrom n r v g (suc b) ≡ true → any (fitsFrom n r v g) (upto (len - b) b) ≡ true
         on c = any-is (fitsFrom n r v g) (upto-has (len - b) b b (omega arith) (omega arith)) (both (sym f ∙ t) c)
+
         back : any (fitsFrom n r v g) (upto (len - b) b) ≡ true → comesFrom n r v g (suc b) ≡ true
         back c =
             let m = any-at (fitsFrom n r v g) (upto (len - b) b) c in
@@ -103,11 +104,13 @@ module _ {w : List ℕ} (ok : Accepted w) (v : ℕ) (g : Leg) {count : ℕ} (e :
     where
       in-range : v < tripCount w
       in-range = rw e at l
+
       on : fitsTrip (netOf w) r v g ≡ true → fitsRide (netOf w) v g ≡ true
       on c =
           let p = standing-trip-of ok in-range in
           let here : fitsTrip (netOf w) (routeOfTrip w v) v g ≡ true = rw f at c in
           ride-is (netOf w) v g (routeOfTrip w v) (p .place) (standing-in ok in-range) (p .within) (sym (p .trip)) here
+
       back : fitsRide (netOf w) v g ≡ true → fitsTrip (netOf w) r v g ≡ true
       back c =
           let m = ride-at (netOf w) v g c in

@@ -1,6 +1,6 @@
 -- `checkjourney::tell`: what is judged has a line.
 use borrow.Author.Needs.{needs}
-use Rattle.checkjourney.proofs.Printed.{judged-printed}
+use Rattle.verdict_line.proofs.Printed.{judged-printed}
 use Rattle.checkjourney.proofs.tell.Statement.{statement}
 use Rattle.checkjourney.proofs.tell.Tie as tie
 

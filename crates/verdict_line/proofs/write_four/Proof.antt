@@ -1,10 +1,10 @@
--- `checkjourney::line::write_four`: four stores in a row.
+-- `verdict_line::write_four`: four stores in a row.
 use borrow.Author.Needs.{needs}
 use native.Mathlib.Omega.{arith}
 use lib.ListN.{length-set}
-use Rattle.checkjourney.proofs.Printed.{put-word}
-use Rattle.checkjourney.proofs.line.write_four.Statement.{statement}
-use Rattle.checkjourney.proofs.line.write_four.Tie as tie
+use Rattle.verdict_line.proofs.Printed.{put-word}
+use Rattle.verdict_line.proofs.write_four.Statement.{statement}
+use Rattle.verdict_line.proofs.write_four.Tie as tie
 
 slice-write-out : tie.Need-slice-write-out
 slice-write-out c = search needs

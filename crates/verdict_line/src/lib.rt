@@ -1,4 +1,4 @@
-// The line that is printed of a verdict.
+// The line that `checkjourney` prints of a verdict.
 use handheld::Verdict;
 ghost use mathlib.Core.Path.{_≡_};
 ghost use mathlib.Core.List.{_∷_, []};
@@ -6,7 +6,7 @@ ghost use Prim.Native.Nat.{_+_, _≤_};
 ghost use lib.ListN.{length};
 ghost use Rattle.base.specs.Put.{withBytes};
 ghost use Rattle.numbers.specs.Decimal.{digits};
-ghost use Rattle.checkjourney.specs.Printed.{Printable, badLine, verdictLine};
+ghost use Rattle.verdict_line.specs.Printed.{Printable, badLine, verdictLine};
 
 // `no` and the line's end.
 fn write_no(out: &mut [u8])

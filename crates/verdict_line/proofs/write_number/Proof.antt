@@ -1,8 +1,8 @@
--- `checkjourney::line::write_number`: a number of 32 bits has at most ten digits.
+-- `verdict_line::write_number`: a number of 32 bits has at most ten digits.
 use borrow.Author.Needs.{needs}
-use Rattle.checkjourney.proofs.Printed.{number-asks, number-few}
-use Rattle.checkjourney.proofs.line.write_number.Statement.{statement}
-use Rattle.checkjourney.proofs.line.write_number.Tie as tie
+use Rattle.verdict_line.proofs.Printed.{number-asks, number-few}
+use Rattle.verdict_line.proofs.write_number.Statement.{statement}
+use Rattle.verdict_line.proofs.write_number.Tie as tie
 
 write-decimal-requires : tie.Need-write-decimal-requires
 write-decimal-requires c κs = search (needs, number-asks)

@@ -1,10 +1,10 @@
--- `checkjourney::line::write_bad`: the word, the digits, the end of the line.
+-- `verdict_line::write_bad`: the word, the digits, the end of the line.
 use borrow.Author.Needs.{needs}
 use native.Mathlib.Omega.{arith}
 use lib.ListN.{length-set}
-use Rattle.checkjourney.proofs.Printed.{bad-end, bad-put}
-use Rattle.checkjourney.proofs.line.write_bad.Statement.{statement}
-use Rattle.checkjourney.proofs.line.write_bad.Tie as tie
+use Rattle.verdict_line.proofs.Printed.{bad-end, bad-put}
+use Rattle.verdict_line.proofs.write_bad.Statement.{statement}
+use Rattle.verdict_line.proofs.write_bad.Tie as tie
 
 write-four-requires : tie.Need-write-four-requires
 write-four-requires c κs = search needs

@@ -19,7 +19,7 @@ use Rattle.handheld.specs.declared.Verdict.{Verdict}
 use Rattle.handheld.specs.declared.Verdict.the-variants.{Yes, No, Bad, Refused}
 use Rattle.handheld.specs.Verdict.{verdict}
 use Rattle.handheld.specs.Judged.{judgedAs, judged}
-use Rattle.checkjourney.specs.Printed.{badLine, verdictLine, Printable}
+use Rattle.verdict_line.specs.Printed.{badLine, verdictLine, Printable}
 
 -- ---- stores one behind the other
 module _ (b : List ℕ) (h : 16 ≤ length b) where

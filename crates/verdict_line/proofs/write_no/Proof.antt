@@ -1,10 +1,10 @@
--- `checkjourney::line::write_no`: three stores in a row.
+-- `verdict_line::write_no`: three stores in a row.
 use borrow.Author.Needs.{needs}
 use native.Mathlib.Omega.{arith}
 use lib.ListN.{length-set}
-use Rattle.checkjourney.proofs.Printed.{put-three}
-use Rattle.checkjourney.proofs.line.write_no.Statement.{statement}
-use Rattle.checkjourney.proofs.line.write_no.Tie as tie
+use Rattle.verdict_line.proofs.Printed.{put-three}
+use Rattle.verdict_line.proofs.write_no.Statement.{statement}
+use Rattle.verdict_line.proofs.write_no.Tie as tie
 
 slice-write-out : tie.Need-slice-write-out
 slice-write-out c = search needs

@@ -1,8 +1,8 @@
--- `checkjourney::line::write_line`: verdict by verdict.
+-- `verdict_line::write_line`: verdict by verdict.
 use borrow.Author.Needs.{needs}
-use Rattle.checkjourney.proofs.Printed.{yes-long, yes-put, no-long, no-put, offset-small, bad-long, bad-line, number-long, number-line}
-use Rattle.checkjourney.proofs.line.write_line.Statement.{statement}
-use Rattle.checkjourney.proofs.line.write_line.Tie as tie
+use Rattle.verdict_line.proofs.Printed.{yes-long, yes-put, no-long, no-put, offset-small, bad-long, bad-line, number-long, number-line}
+use Rattle.verdict_line.proofs.write_line.Statement.{statement}
+use Rattle.verdict_line.proofs.write_line.Tie as tie
 
 enum-told : tie.Need-enum-told
 enum-told c = search needs

@@ -1,2 +1,0 @@
--- The definitions that the contracts of `checkjourney` cite.
-pub mod Printed

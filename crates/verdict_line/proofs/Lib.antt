@@ -1,0 +1,2 @@
+-- The laws of `verdict_line`.
+pub mod Printed

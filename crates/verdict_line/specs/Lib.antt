@@ -1,0 +1,2 @@
+-- The definitions that the contracts of `verdict_line` cite.
+pub mod Printed
