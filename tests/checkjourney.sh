@@ -216,46 +216,32 @@ if ! diff table printed; then
     exit 1
 fi
 
-# ---- the script: asked STATUS STREAM BYTES ARG.. , where the other stream stays empty; what was said is in the file `said`
-asked() {
-    status=$1 stream=$2 bytes=$3
-    shift 3
-    ended=0
-    "$root/checkjourney" "$@" >output 2>error <"$bytes" || ended=$?
-    case $stream in
-    output) mv output said && quiet=error ;;
-    error) mv error said && quiet=output ;;
-    esac
-    if [ $ended -ne "$status" ] || [ -s $quiet ] || [ ! -s said ]; then
-        echo "./checkjourney $* <$bytes: status $ended, and $status was expected; on the $stream stream:"
-        cat said
-        echo "on the other:"
-        cat $quiet
-        exit 1
-    fi
-    asks=$((asks + 1))
+# ---- the script: sent BYTES STATUS STREAM ARG..
+script=$root/checkjourney
+. "$root/tests/asked.sh"
+sent() {
+    input=$1
+    shift
+    asked "$@"
 }
-# says TEXT: what was said has it as a line
-says() { grep -Fqx "$1" said || { echo "./checkjourney does not say: $1"; cat said; exit 1; }; }
-asks=0
-asked 0 output n1 0 4 depart 50
+sent n1 0 output 0 4 depart 50
 says yes
-asked 1 output n1 0 4 depart 101
+sent n1 1 output 0 4 depart 101
 says no
-asked 1 error kind_9 0 4 depart 50
+sent kind_9 1 error 0 4 depart 50
 says 'bad 59'
-asked 1 error n1 9 4 depart 50
-asked 1 error n1 0 4 depart 0
+sent n1 1 error 9 4 depart 50
+sent n1 1 error 0 4 depart 0
 says '8: query moment outside 1 to 1,000,000'
-asked 1 error n1 0 4 depart 50 tables:bad2
-asked 1 error n1 0 4 depart 50 tables:nowhere
-asked 1 error too_many 0 4 depart 50
-asked 2 error n1 0 4 depart 50 fast
+sent n1 1 error 0 4 depart 50 tables:bad2
+sent n1 1 error 0 4 depart 50 tables:nowhere
+sent too_many 1 error 0 4 depart 50
+sent n1 2 error 0 4 depart 50 fast
 says "$usage"
-asked 2 error n1 0 4
+sent n1 2 error 0 4
 says 'depart|arrive: is not given'
-asked 2 error n1
-asked 0 output n1 --help
+sent n1 2 error
+sent n1 0 output --help
 says "$usage"
 
 # ---- what the search writes gets a yes, in a pipe and with the same arguments: judged YES|NO ARG..

@@ -371,28 +371,9 @@ if ! diff table printed; then
     exit 1
 fi
 
-# ---- the script: asked STATUS STREAM ARG.. , where the other stream stays empty; what was said is in the file `said`
-asked() {
-    status=$1 stream=$2
-    shift 2
-    ended=0
-    "$script" "$@" >output 2>error </dev/null || ended=$?
-    case $stream in
-    output) mv output said && quiet=error ;;
-    error) mv error said && quiet=output ;;
-    esac
-    if [ $ended -ne "$status" ] || [ -s $quiet ] || [ ! -s said ]; then
-        echo "./kiosk $*: status $ended, and $status was expected; on the $stream stream:"
-        cat said
-        echo "on the other:"
-        cat $quiet
-        exit 1
-    fi
-    asks=$((asks + 1))
-}
-# says TEXT: what was said has it as a line
-says() { grep -Fqx "$1" said || { echo "./kiosk does not say: $1"; cat said; exit 1; }; }
-asks=0
+# ---- the script
+input=/dev/null
+. "$root/tests/asked.sh"
 script=$root/kiosk
 asked 0 output 0 4 depart 50
 says 'Leave stop 0 at 0:01:40, arrive at stop 4 at 0:07:30: 2 rides, round 1.'

@@ -5,6 +5,7 @@
 -- "no sooner than asked"; for an arrival query "no later than asked"      J3; A1
 -- any origin and destination of the query                                 O1 to O5
 -- a departure journey begins with a ride, an arrival journey ends with one B1; A2
+-- an arrival journey may begin at any moment                              A3
 -- legs join; no stop is left before it is reached; one may wait           C1; C2; C3
 -- a footpath is listed under its first stop, leads to its last, and lasts exactly its span; of its own kind; allowed
 --                                                                         F1 to F6
@@ -97,6 +98,8 @@ pub verdicts :
     -- A2: an arrival journey ends with one, and may begin with a footpath
     ∷ verdict N (arriving 2 4 450) (transfer 2 3 300 330 ∷ ride 3 4 2 350 450 ∷ []) is true
     ∷ verdict N (arriving 0 3 400) (rides-to-2 ∷ transfer 2 3 300 330 ∷ []) is false
+    -- A3: and may begin at any moment: nothing is asked of its first departure
+    ∷ verdict N (arriving 2 4 450) (transfer 2 3 0 30 ∷ ride 3 4 2 350 450 ∷ []) is true
     -- C1: legs join
     ∷ verdict N (departing Source 0 4 50) (ride 0 1 0 100 200 ∷ transfer 2 3 300 330 ∷ ride 3 4 2 350 450 ∷ []) is false
     ∷ verdict N (departing Source 0 4 50) (rides-to-2 ∷ ride 3 4 2 350 450 ∷ []) is false

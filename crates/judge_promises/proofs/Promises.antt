@@ -5,8 +5,9 @@ use Prim.Native.Nat.{ℕ, zero, suc, _≤_, _<_}
 use mathlib.Core.Path.{_≡_, refl, sym, ap, _∙_, subst}
 use mathlib.Core.Bool.{Bool, true, false, cond, _&&_, _||_, false≢true}
 use mathlib.Core.List.{List, [], _∷_}
-use mathlib.Core.Logic.{_≢_}
+use mathlib.Core.Logic.{_⊎_, inl, inr, _≢_}
 use native.Mathlib.Omega.{arith}
+use lib.Dec.{leb}
 use lib.ListN.{take}
 use Rattle.base.proofs.Choice.{split}
 use Rattle.model.specs.declared.Answer.{Answer}
@@ -17,14 +18,15 @@ use Rattle.model.specs.declared.Query.{Query}
 use Rattle.shared.specs.declared.Time.{Time}
 use Rattle.model.specs.Tables.{Net}
 use Rattle.model.specs.Bytes.{Read, legs, bad, read, BadAt}
-use Rattle.model.specs.Places.{placeStops}
-use Rattle.model.specs.Answer.{mayWalk, refusal, lowest, unless, searched, legsOf}
+use Rattle.model.specs.Limits.{LAST-MOMENT}
+use Rattle.model.specs.Places.{exists, placeStops, barren}
+use Rattle.model.specs.Answer.{mayWalk, momentOf, refusal, lowest, unless, searched, legsOf}
 use Rattle.model.proofs.ReadBack.{bad-means, bad-is}
 use Rattle.repository.specs.Accepted.{Accepted}
 use Rattle.repository.specs.Checked.{checkOf}
 use Rattle.repository.specs.NetOf.{netOf}
 use Rattle.repository.proofs.Sound.{accepted-sound, accepted-sound-places}
-use Rattle.check_tables.proofs.Whole.{accepted-is}
+use Rattle.check_tables.proofs.Whole.{accepted-is, check-most}
 use Rattle.raptor.specs.Lent.{Lent}
 use Rattle.raptor.specs.Solved.{Solved}
 use Rattle.raptor.proofs.Promises.{found-accepted, found-chosen, reads-back}
@@ -146,7 +148,7 @@ module _ (w : List ℕ) (q : Query) (b : List ℕ) where
   unfolding judgedAs
   bad-thirteen {o} ok e h = unrefused (pass ok e) ∙ ap (judgedAs (netOf w) q) (bad-is b o h)
 
-  -- ==== "Refusals: tables as 1 to 5, then 7, 8, 9": whatever the bytes are; never 6
+  -- ==== "Refusals: tables as 1 to 5, then 7, 8, 9": whatever the bytes are
   pub refused-is : {x : ℕ} → judged (checkOf w) (netOf w) q b ≡ Refused x → (x ≡ lowest (checkOf w) true (netOf w) q) × (0 < x)
   refused-is {x} t =
       told-by (Refused x) t
@@ -160,6 +162,22 @@ module _ (w : List ℕ) (q : Query) (b : List ℕ) where
   pub is-refused : {k : ℕ} → lowest (checkOf w) true (netOf w) q ≡ suc k → judged (checkOf w) (netOf w) q b ≡ Refused (suc k)
   unfolding unless
   is-refused e = by-number ∙ ap (unless Refused (judgedAs (netOf w) q (read b))) e
+
+  -- 1 to 5, or 7 to 9: "6 a workspace slice of wrong length" is none of them
+  pub refused-range : {x : ℕ} → judged (checkOf w) (netOf w) q b ≡ Refused x → (x ≤ 5) ⊎ ((7 ≤ x) × (x ≤ 9))
+  unfolding lowest refusal
+  refused-range {x} t = subst (λ (k : ℕ). (k ≤ 5) ⊎ ((7 ≤ k) × (k ≤ 9))) (sym (refused-is t .0)) (by-fault (checkOf w) (check-most w))
+    where
+      by-query : (a c d : Bool) → let k = cond {A = ℕ} a (cond c (cond d 9 0) 8) 7 in (k ≤ 5) ⊎ ((7 ≤ k) × (k ≤ 9))
+      by-query true true true = inr (omega arith, omega arith)
+      by-query true true false = inl (omega arith)
+      by-query true false d = inr (omega arith, omega arith)
+      by-query false c d = inr (omega arith, omega arith)
+      by-fault : (c : ℕ) → c ≤ 5 → let k = lowest c true (netOf w) q in (k ≤ 5) ⊎ ((7 ≤ k) × (k ≤ 9))
+      by-fault zero l =
+          by-query (exists (netOf w) (q .from) && exists (netOf w) (q .to))
+          (leb 1 (momentOf (q .time)) && leb (momentOf (q .time)) LAST-MOMENT) (barren (netOf w) (q .from) || barren (netOf w) (q .to))
+      by-fault (suc c) l = inl l
 
   -- the tables' own number before everything
   pub tables-first : {k : ℕ} → checkOf w ≡ suc k → judged (checkOf w) (netOf w) q b ≡ Refused (suc k)
