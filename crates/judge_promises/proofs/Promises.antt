@@ -173,6 +173,7 @@ module _ (w : List ℕ) (q : Query) (b : List ℕ) where
       by-query true true false = inl (omega arith)
       by-query true false d = inr (omega arith, omega arith)
       by-query false c d = inr (omega arith, omega arith)
+
       by-fault : (c : ℕ) → c ≤ 5 → let k = lowest c true (netOf w) q in (k ≤ 5) ⊎ ((7 ≤ k) × (k ≤ 9))
       by-fault zero l =
           by-query (exists (netOf w) (q .from) && exists (netOf w) (q .to))
