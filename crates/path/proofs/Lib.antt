@@ -3,5 +3,6 @@ pub mod Steps
 pub mod Behind
 pub mod Counted
 pub mod Order
+pub mod Once
 pub mod Writing
 pub mod Reached

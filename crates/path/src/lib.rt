@@ -6,16 +6,15 @@ use model::Leg;
 use model::LegType;
 ghost use mathlib.Core.List.{_++_};
 ghost use mathlib.Core.Path.{_≡_};
-ghost use Prim.Native.Nat.{_+_, _≤_, _<_};
+ghost use Prim.Native.Nat.{_≤_, _<_};
 ghost use lib.ListN.{length, drop};
-ghost use Rattle.model.specs.declared.Direction.the-variants.{Departure as Departing, Arrival as Arriving};
 ghost use Rattle.model.specs.Limits.{MOST-ROUNDS};
 ghost use Rattle.model.specs.Back.{near as nearSide, back, inOrder};
-ghost use Rattle.model.specs.Bytes.{writeLeg, write, legSize, sizeOf};
+ghost use Rattle.model.specs.Bytes.{write, sizeOf};
 ghost use Rattle.allocator.specs.Layout.{Words, parentsOf};
-ghost use Rattle.base.specs.Put.{withBytes};
 ghost use Rattle.path.specs.Step.{lowers, stepOf};
 ghost use Rattle.path.specs.Traced.{Traced};
+ghost use Rattle.path.specs.Once.{riddenBefore};
 
 // Where the way back goes on behind a leg.
 pub enum Step {
@@ -83,105 +82,19 @@ pub fn size_back(words: &[u32], stops: u32, routes: u32, d: Direction, k: u32, s
     }
 }
 
-// Writes the leg so that it ends at `at`, and answers where it starts.
-fn write_before(journey: &mut [u8], at: usize, g: Leg) -> usize
-    requires { ⌜ legSize (g .kind) ≤ at ⌝ }
-    requires { ⌜ at ≤ length (now journey) ⌝ }
-    ensures { λ a. ⌜ a + legSize (g .kind) ≡ at ⌝ }
-    ensures { λ a. ⌜ now (journey .exit) ≡ withBytes (now (journey .entry)) a (writeLeg g) ⌝ }
+// How many bytes are ridden before a leg, of those that are found before it and those that are left to find: a departure search
+// finds the last leg first.
+fn ridden_before(d: Direction, found: usize, left: usize) -> usize
+    ensures { λ at. ⌜ at ≡ riddenBefore d found left ⌝ }
 {
-    let a = at - journey::leg_size(g);
-    journey::write_leg(journey, a, g);
-    a
-}
-
-// Writes the leg so that it starts at `at`, and answers where it ends.
-fn write_after(journey: &mut [u8], at: usize, g: Leg) -> usize
-    requires { ⌜ at + legSize (g .kind) ≤ length (now journey) ⌝ }
-    ensures { λ e. ⌜ e ≡ at + legSize (g .kind) ⌝ }
-    ensures { λ _. ⌜ now (journey .exit) ≡ withBytes (now (journey .entry)) at (writeLeg g) ⌝ }
-{
-    journey::write_leg(journey, at, g);
-    at + journey::leg_size(g)
-}
-
-// A departure search finds the last leg first, so the journey is written from its end.
-fn backtrack_departure(
-    words: &[u32],
-    journey: &mut [u8],
-    stops: u32,
-    routes: u32,
-    k: u32,
-    s: u32,
-    size: usize,
-)
-    requires { ⌜ Words stops routes (now words) ⌝ }
-    requires { ⌜ Traced Departing stops (parentsOf stops routes (now words)) k s ⌝ }
-    requires { ⌜ k < MOST-ROUNDS ⌝ }
-    requires { ⌜ size ≡ sizeOf (back Departing stops (parentsOf stops routes (now words)) stops k s) ⌝ }
-    requires { ⌜ size ≤ length (now journey) ⌝ }
-    ensures { λ _. ⌜ now (journey .exit)
-        ≡ write (inOrder Departing (back Departing stops (parentsOf stops routes (now (words .entry))) stops k s))
-        ++ drop size (now (journey .entry)) ⌝ }
-{
-    let mut round = k;
-    let mut stop = s;
-    let mut at = size;
-    loop {
-        let parent = allocator::parent_at(words, stops, routes, round, stop);
-        // there always is one
-        let Parent::Leg(g) = parent else {
-            return;
-        };
-        at = write_before(journey, at, g);
-        let next = step_back(Direction::Departure, round, g);
-        let Step::On(j, u) = next else {
-            return;
-        };
-        round = j;
-        stop = u;
+    match d {
+        Direction::Departure => left,
+        Direction::Arrival => found,
     }
 }
 
-// An arrival search finds the legs in riding order.
-fn backtrack_arrival(
-    words: &[u32],
-    journey: &mut [u8],
-    stops: u32,
-    routes: u32,
-    k: u32,
-    s: u32,
-    size: usize,
-)
-    requires { ⌜ Words stops routes (now words) ⌝ }
-    requires { ⌜ Traced Arriving stops (parentsOf stops routes (now words)) k s ⌝ }
-    requires { ⌜ k < MOST-ROUNDS ⌝ }
-    requires { ⌜ size ≡ sizeOf (back Arriving stops (parentsOf stops routes (now words)) stops k s) ⌝ }
-    requires { ⌜ size ≤ length (now journey) ⌝ }
-    ensures { λ _. ⌜ now (journey .exit)
-        ≡ write (inOrder Arriving (back Arriving stops (parentsOf stops routes (now (words .entry))) stops k s))
-        ++ drop size (now (journey .entry)) ⌝ }
-{
-    let mut round = k;
-    let mut stop = s;
-    let mut at = 0;
-    loop {
-        let parent = allocator::parent_at(words, stops, routes, round, stop);
-        // there always is one
-        let Parent::Leg(g) = parent else {
-            return;
-        };
-        at = write_after(journey, at, g);
-        let next = step_back(Direction::Arrival, round, g);
-        let Step::On(j, u) = next else {
-            return;
-        };
-        round = j;
-        stop = u;
-    }
-}
-
-// Writes the legs of the way back in riding order to the first bytes, and touches no other byte.
+// Writes the legs of the way back in riding order to the first bytes, and touches no other byte. Each leg is written once, as it is
+// found, where it stays.
 pub fn backtrack(
     words: &[u32],
     journey: &mut [u8],
@@ -201,14 +114,24 @@ pub fn backtrack(
         ≡ write (inOrder d (back d stops (parentsOf stops routes (now (words .entry))) stops k s))
         ++ drop size (now (journey .entry)) ⌝ }
 {
-    match d {
-        Direction::Departure => {
-            backtrack_departure(words, journey, stops, routes, k, s, size);
+    let mut round = k;
+    let mut stop = s;
+    let mut found = 0;
+    loop {
+        let parent = allocator::parent_at(words, stops, routes, round, stop);
+        // there always is one
+        let Parent::Leg(g) = parent else {
             return;
-        }
-        Direction::Arrival => {
-            backtrack_arrival(words, journey, stops, routes, k, s, size);
+        };
+        let with = found + journey::leg_size(g);
+        let at = ridden_before(d, found, size - with);
+        journey::write_leg(journey, at, g);
+        let next = step_back(d, round, g);
+        let Step::On(j, u) = next else {
             return;
-        }
+        };
+        round = j;
+        stop = u;
+        found = with;
     }
 }

@@ -1,0 +1,9 @@
+/* Searches whose stores are counted: the proved one, and wrong ones that a caller cannot tell from it. */
+#ifndef COMPARE_STORES_WRONG_H
+#define COMPARE_STORES_WRONG_H
+
+#include "face.h"
+
+solver *solver_named(const char *name);                 /* NULL where there is none of this name */
+
+#endif

@@ -1,0 +1,129 @@
+-- Legs that are put as they are found: each byte of the journey is put once, no other byte is, and what stands there is the journey in
+-- riding order. The promises stand at the end, under "What is promised".
+-- Assumes nothing.
+use Prim.Native.Nat.{ℕ, _+_, _≤_, _<_}
+use mathlib.Core.Path.{_≡_, refl, sym, ap, _∙_}
+use mathlib.Core.Bool.{cond, _&&_}
+use mathlib.Core.List.{List, [], _∷_, _++_, reverse, reverse-cons}
+use native.Mathlib.Omega.{arith}
+use native.Mathlib.Nat.{zero-add, add-zero}
+use lib.ListN.{length, drop, take-append-drop}
+use lib.Dec.{leb, ltb}
+use borrow.Author.Tests.{le-leb, lt-leb, lt-ltb, le-ltb, leb-true, leb-false, ltb-true, ltb-false}
+use Rattle.base.specs.Put.{withBytes}
+use Rattle.base.proofs.Choice.{split}
+use Rattle.base.proofs.Put.{put-length, put-first, put-next}
+use Rattle.model.specs.declared.Direction.{Direction}
+use Rattle.model.specs.declared.Direction.the-variants.{Departure, Arrival}
+use Rattle.model.specs.declared.Leg.{Leg}
+use Rattle.model.specs.Back.{inOrder}
+use Rattle.model.specs.Bytes.{writeLeg, write, legSize, sizeOf}
+use Rattle.model.proofs.ReadBack.{leg-length}
+use Rattle.path.specs.Once.{riddenBefore, puts, putAll, placedBack, covers, timesPut, FromEnd, none, next}
+use Rattle.path.proofs.Order.{write-last, order-size}
+
+-- ---- how often a byte is put
+-- 1 where i stands from a up to below e
+abbrev oneIn : ℕ → ℕ → ℕ → ℕ
+oneIn a e i = cond (leb a i && ltb i e) 1 0
+
+module _ (a e i : ℕ) where
+  in-low : i < a → oneIn a e i ≡ 0
+  in-low h = rw (lt-leb a i h) refl
+
+  in-high : e ≤ i → oneIn a e i ≡ 0
+  in-high h = split (leb a i) (λ t. rw (t, le-ltb i e h) refl) (λ f. rw f refl)
+
+  in-one : a ≤ i → i < e → oneIn a e i ≡ 1
+  in-one h k = rw (le-leb a i h, lt-ltb i e k) refl
+
+-- two stretches that meet are one
+meet : (a m e i : ℕ) → a ≤ m → m ≤ e → oneIn a m i + oneIn m e i ≡ oneIn a e i
+meet a m e i h k = split (ltb i m) (λ t. below (ltb-true i m t)) (λ f. above (ltb-false i m f))
+  where
+    below : i < m → oneIn a m i + oneIn m e i ≡ oneIn a e i
+    below l =
+        let right = in-low m e i l in
+        split (leb a i)
+        (λ t. let u = leb-true a i t in omega (arith, right, in-one a m i u l, in-one a e i u (omega arith)))
+        (λ f. let u = leb-false a i f in omega (arith, right, in-low a m i u, in-low a e i u))
+
+    above : m ≤ i → oneIn a m i + oneIn m e i ≡ oneIn a e i
+    above l =
+        let left = in-high a m i l in
+        split (ltb i e)
+        (λ t. let u = ltb-true i e t in omega (arith, left, in-one m e i l u, in-one a e i (omega arith) u))
+        (λ f. let u = ltb-false i e f in omega (arith, left, in-high m e i u, in-high a e i u))
+
+-- where the first byte of the legs that are left stands
+abbrev start : Direction → ℕ → ℕ
+start d found = riddenBefore d found 0
+
+times : (d : Direction) (found : ℕ) (gs : List Leg) (i : ℕ)
+    → timesPut (puts d found gs) i ≡ oneIn (start d found) (start d found + sizeOf gs) i
+unfolding puts timesPut covers sizeOf
+times d found [] i =
+    let a = start d found in
+    sym (split (ltb i a) (λ t. in-low a (a + 0) i (ltb-true i a t)) (λ f. in-high a (a + 0) i (omega (arith, ltb-false i a f))))
+times Departure found (g ∷ gs) i =
+    let s = sizeOf gs in
+    let e : 0 + (legSize (g .kind) + s) ≡ s + legSize (g .kind) = omega arith in
+    rw (leg-length g, times Departure (found + legSize (g .kind)) gs i, zero-add s, e)
+    (omega (arith, meet 0 s (s + legSize (g .kind)) i (omega arith) (omega arith)))
+times Arrival found (g ∷ gs) i =
+    let m = found + legSize (g .kind) in
+    let s = sizeOf gs in
+    let e : found + (legSize (g .kind) + s) ≡ m + s = omega arith in
+    rw (leg-length g, times Arrival m gs i, e) (meet found m (m + s) i (omega arith) (omega arith))
+
+-- ---- what then stands there
+put-none : (b : List ℕ) (a : ℕ) → withBytes b a [] ≡ b
+unfolding withBytes
+put-none b a = rw (add-zero a) (take-append-drop a b)
+
+all-put : (d : Direction) (found : ℕ) (gs : List Leg) (b : List ℕ) → start d found + sizeOf gs ≤ length b
+    → putAll (puts d found gs) b ≡ withBytes b (start d found) (write (inOrder d gs))
+unfolding puts putAll sizeOf inOrder write
+all-put Departure found [] b h = sym (put-none b 0)
+all-put Arrival found [] b h = sym (put-none b found)
+all-put Departure found (g ∷ gs) b h =
+    let p = write (reverse gs) in
+    let s : length p ≡ sizeOf gs = order-size Departure gs in
+    let b′ = withBytes b (sizeOf gs) (writeLeg g) in
+    let l : length b′ ≡ length b = put-length b (sizeOf gs) (writeLeg g) (omega (arith, leg-length g)) in
+    let x : sizeOf gs ≡ 0 + length p = omega (arith, s) in
+    let last : write (reverse (g ∷ gs)) ≡ p ++ writeLeg g = ap write (reverse-cons g gs) ∙ write-last (reverse gs) g in
+    all-put Departure (found + legSize (g .kind)) gs b′ (omega (arith, l))
+    ∙ rw (x, last) (put-first b 0 p (omega (arith, s)) (writeLeg g))
+all-put Arrival found (g ∷ gs) b h =
+    let m = found + legSize (g .kind) in
+    let b′ = withBytes b found (writeLeg g) in
+    let l : length b′ ≡ length b = put-length b found (writeLeg g) (omega (arith, leg-length g)) in
+    let x : m ≡ found + length (writeLeg g) = omega (arith, leg-length g) in
+    all-put Arrival m gs b′ (omega (arith, l))
+    ∙ rw x (put-next b found (writeLeg g) (omega (arith, leg-length g)) (write gs))
+
+-- ---- What is promised
+
+-- "put every leg at its final place": the legs, each put as it is found, are the journey in riding order; bytes past it stay
+pub placed-once : (d : Direction) (gs : List Leg) (b : List ℕ) → sizeOf gs ≤ length b
+    → placedBack d gs b ≡ write (inOrder d gs) ++ drop (sizeOf gs) b
+unfolding placedBack withBytes
+placed-once Departure gs b h = all-put Departure 0 gs b (omega arith) ∙ rw (zero-add _, order-size Departure gs)
+placed-once Arrival gs b h = all-put Arrival 0 gs b (omega arith) ∙ rw (zero-add _, order-size Arrival gs)
+
+-- "Write each leg once": every byte below the journey's length belongs to one leg and is put once, and no other byte is put
+pub places-apart : (d : Direction) (gs : List Leg) (i : ℕ) → timesPut (puts d 0 gs) i ≡ cond (ltb i (sizeOf gs)) 1 0
+places-apart Departure gs i = times Departure 0 gs i ∙ rw (zero-add (sizeOf gs), le-leb 0 i (omega arith))
+places-apart Arrival gs i = times Arrival 0 gs i ∙ rw (zero-add (sizeOf gs), le-leb 0 i (omega arith))
+
+-- "For a departure query the legs come out last first": each ends where the leg behind it begins, and the last leg ends the journey
+pub last-first : (gs : List Leg) → FromEnd (sizeOf gs) (puts Departure 0 gs)
+unfolding puts sizeOf
+last-first gs = go 0 gs
+  where
+    go : (found : ℕ) (gs : List Leg) → FromEnd (sizeOf gs) (puts Departure found gs)
+    go found [] = none
+    go found (g ∷ gs) =
+        let e : legSize (g .kind) + sizeOf gs ≡ sizeOf gs + length (writeLeg g) = omega (arith, leg-length g) in
+        rw e (next (go (found + legSize (g .kind)) gs))
