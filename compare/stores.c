@@ -53,16 +53,16 @@ static void lend(lent *l, const flat *t, uint8_t *journey) {
 
 /* Whether the legs of the journey were stored one after the other as they are found: last first where the query departs. */
 static int in_turn(const uint8_t *journey, size_t len, const unsigned long *stored, int departs) {
-    unsigned long low = 0, high = 0;
-    for (size_t at = 0, size; at < len; at += size) {
-        unsigned long first = stored[at], end = stored[at];
-        size = journey[at] == RIDE ? 21 : 17;
-        for (size_t i = at; i < at + size; i++) {
+    unsigned long first_before = 0, last_before = 0;
+    kiosk_one_leg leg;
+    for (size_t at = 0, end = 0; kiosk_next_leg(journey, len, &end, &leg); at = end) {
+        unsigned long first = stored[at], final = stored[at];
+        for (size_t i = at; i < end; i++) {
             if (stored[i] < first) first = stored[i];
-            if (stored[i] > end) end = stored[i];
+            if (stored[i] > final) final = stored[i];
         }
-        if (at > 0 && (departs ? end >= low : first <= high)) return 0;
-        low = first, high = end;
+        if (at > 0 && (departs ? final >= first_before : first <= last_before)) return 0;
+        first_before = first, last_before = final;
     }
     return 1;
 }

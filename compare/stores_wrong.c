@@ -1,5 +1,5 @@
-/* Wrong writers of a journey, for stores.c to notice. Each answers as the proved search does, number 12 included, and leaves the same bytes: only who counts
-   the stores sees that it is wrong. The journey is the proved search's, taken from a buffer of its own. */
+/* Writers of a journey in C, for stores.c: one that is right, and wrong ones for it to notice. Each answers as the proved search does, number 12 included, and leaves the same bytes: only who counts
+   the stores sees which are wrong. The journey is the proved search's, taken from a buffer of its own. */
 #include "stores_wrong.h"
 
 enum { MOST_LEGS = 4096 };
@@ -12,14 +12,13 @@ static int same(const char *a, const char *b) { while (*a && *a == *b) a++, b++;
 
 /* Where the legs begin, and where the last ends. */
 static void measure(size_t len) {
+    kiosk_one_leg leg;
+    size_t end = 0;
     legs = 0, offset[0] = 0;
-    while (offset[legs] < len) offset[legs + 1] = offset[legs] + (found[offset[legs]] == RIDE ? 21 : 17), legs++;
+    while (kiosk_next_leg(found, len, &end, &leg)) offset[++legs] = end;
 }
 
-/* What each does with the buffer once the journey is known, its length and whether the query departs; `fits` is whether it answers 0. */
-typedef void writer(uint8_t *journey, size_t room, size_t len, int departs, int fits);
-
-static void put(uint8_t *at, const uint8_t *from, size_t n) { for (size_t i = 0; i < n; i++) at[i] = from[i]; }
+static void put(uint8_t *at, size_t leg) { for (size_t i = offset[leg]; i < offset[leg + 1]; i++) *at++ = found[i]; }
 static void flip(uint8_t *a, size_t n) {
     for (size_t i = 0; i < n / 2; i++) {
         uint8_t x = a[i];
@@ -27,46 +26,57 @@ static void flip(uint8_t *a, size_t n) {
     }
 }
 
-/* The legs in the order in which they are found, and then turned round: all bytes, and each leg once more. */
+/* What each does with the buffer once the journey is known, its length, whether the query departs, and whether the answer is 0. */
+typedef void writer(uint8_t *journey, size_t room, size_t len, int departs, int fits);
+
+/* Right: each leg to its place, as it is found. */
+static void right(uint8_t *journey, size_t room, size_t len, int departs, int fits) {
+    (void)room, (void)len;
+    for (size_t k = 0; fits && k < legs; k++) {
+        size_t i = departs ? legs - 1 - k : k;
+        put(journey + offset[i], i);
+    }
+}
+
+/* The legs of a departure query in the order in which they are found, and then turned round: all bytes, and each leg once more. */
 static void turned(uint8_t *journey, size_t room, size_t len, int departs, int fits) {
     size_t at = 0;
-    (void)room;
-    if (!fits) return;
-    if (!departs) { put(journey, found, len); return; }
-    for (size_t i = legs; i-- > 0; at += offset[i + 1] - offset[i]) put(journey + at, found + offset[i], offset[i + 1] - offset[i]);
+    if (!fits || !departs) { right(journey, room, len, departs, fits); return; }
+    for (size_t i = legs; i-- > 0; at += offset[i + 1] - offset[i]) put(journey + at, i);
     flip(journey, len);
     for (size_t i = 0; i < legs; i++) flip(journey + offset[i], offset[i + 1] - offset[i]);
 }
 
-/* No count first: the legs from the end of the buffer on, and then moved to its front, with what stood there put back behind them. */
+/* No count first: the legs from the end of the buffer on, and then moved to its front, with what stood behind them put back. */
 static void moved(uint8_t *journey, size_t room, size_t len, int departs, int fits) {
-    static uint8_t stood[KIOSK_MOST_JOURNEY];
-    (void)departs;
+    static uint8_t stood[1 << 17];
     if (!fits) return;
-    put(stood, journey, room);
-    put(journey + room - len, found, len);
-    for (size_t i = 0; i < len; i++) journey[i] = journey[room - len + i];
-    put(journey + len, stood + len, room - len);
+    __builtin_memcpy(stood, journey, room);
+    right(journey + room - len, room, len, departs, fits);
+    __builtin_memmove(journey, journey + room - len, len);
+    __builtin_memcpy(journey + len, stood + len, room - len);
+}
+
+/* All legs to their places, and then once more as one block. */
+static void again(uint8_t *journey, size_t room, size_t len, int departs, int fits) {
+    right(journey, room, len, departs, fits);
+    if (fits) __builtin_memcpy(journey, found, len);
 }
 
 /* 12 is decided after the first leg that is found; what stood in its place is put back. */
 static void early(uint8_t *journey, size_t room, size_t len, int departs, int fits) {
-    uint8_t stood[MOST_LEG];
-    size_t i = departs ? legs - 1 : 0, size = offset[i + 1] - offset[i];
-    if (fits) {
-        for (size_t k = 0; k < legs; k++) i = departs ? legs - 1 - k : k, put(journey + offset[i], found + offset[i], offset[i + 1] - offset[i]);
-    } else if (legs > 0 && size <= room) {
-        for (size_t k = 0; k < size; k++) stood[k] = ((volatile uint8_t *)journey)[k];
-        for (size_t k = 0; k < size; k++) ((volatile uint8_t *)journey)[k] = found[offset[i] + k];
-        for (size_t k = 0; k < size; k++) ((volatile uint8_t *)journey)[k] = stood[k];
-    }
+    size_t leg = departs ? legs - 1 : 0, size = offset[leg + 1] - offset[leg];
+    volatile uint8_t *at = journey;     /* or the compiler sees that nothing comes of it */
+    uint8_t stood[32];                  /* no leg is longer */
+    right(journey, room, len, departs, fits);
+    if (fits || size > room) return;
+    for (size_t i = 0; i < size; i++) stood[i] = at[i];
+    for (size_t i = 0; i < size; i++) at[i] = found[offset[leg] + i];
+    for (size_t i = 0; i < size; i++) at[i] = stood[i];
 }
 
-/* Every byte once, but the legs in the order in which they are ridden. */
-static void ridden(uint8_t *journey, size_t room, size_t len, int departs, int fits) {
-    (void)room, (void)departs;
-    if (fits) put(journey, found, len);
-}
+/* Every byte once, but the legs of a departure query in the order in which they are ridden. */
+static void ridden(uint8_t *journey, size_t room, size_t len, int departs, int fits) { (void)departs, right(journey, room, len, 0, fits); }
 
 static writer *chosen;
 
@@ -85,8 +95,12 @@ static uint32_t wrong_solve(const uint32_t *tables, size_t tables_len, uint32_t 
     return 12;
 }
 
+static const struct { const char *name; writer *writes; } writers[] = {
+    { "right", right }, { "turned", turned }, { "moved", moved }, { "again", again }, { "early", early }, { "ridden", ridden },
+};
+
 solver *solver_named(const char *name) {
     if (same(name, "proved")) return kiosk_solve_checked;
-    chosen = same(name, "turned") ? turned : same(name, "moved") ? moved : same(name, "early") ? early : same(name, "ridden") ? ridden : NULL;
-    return chosen ? wrong_solve : NULL;
+    for (size_t i = 0; i < sizeof writers / sizeof *writers; i++) if (same(name, writers[i].name)) { chosen = writers[i].writes; return wrong_solve; }
+    return NULL;
 }

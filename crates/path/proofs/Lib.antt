@@ -4,5 +4,6 @@ pub mod Behind
 pub mod Counted
 pub mod Order
 pub mod Once
+pub mod Examples
 pub mod Writing
 pub mod Reached

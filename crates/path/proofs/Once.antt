@@ -2,24 +2,25 @@
 -- riding order. The promises stand at the end, under "What is promised".
 -- Assumes nothing.
 use Prim.Native.Nat.{ℕ, _+_, _≤_, _<_}
-use mathlib.Core.Path.{_≡_, refl, sym, ap, _∙_}
+use mathlib.Core.Path.{_≡_, refl, sym, ap, subst, _∙_}
 use mathlib.Core.Bool.{cond, _&&_}
 use mathlib.Core.List.{List, [], _∷_, _++_, reverse, reverse-cons}
 use native.Mathlib.Omega.{arith}
 use native.Mathlib.Nat.{zero-add, add-zero}
-use lib.ListN.{length, drop, take-append-drop}
+use lib.ListN.{length, getD, drop, take-append-drop}
 use lib.Dec.{leb, ltb}
 use borrow.Author.Tests.{le-leb, lt-leb, lt-ltb, le-ltb, leb-true, leb-false, ltb-true, ltb-false}
+use Rattle.base.specs.Each.{Each, nil, cons}
 use Rattle.base.specs.Put.{withBytes}
 use Rattle.base.proofs.Choice.{split}
-use Rattle.base.proofs.Put.{put-length, put-first, put-next}
+use Rattle.base.proofs.Put.{put-length, put-before, put-behind, put-first, put-next}
 use Rattle.model.specs.declared.Direction.{Direction}
 use Rattle.model.specs.declared.Direction.the-variants.{Departure, Arrival}
 use Rattle.model.specs.declared.Leg.{Leg}
 use Rattle.model.specs.Back.{inOrder}
 use Rattle.model.specs.Bytes.{writeLeg, write, legSize, sizeOf}
 use Rattle.model.proofs.ReadBack.{leg-length}
-use Rattle.path.specs.Once.{riddenBefore, puts, putAll, placedBack, covers, timesPut, FromEnd, none, next}
+use Rattle.path.specs.Once.{Put, InBuffer, riddenBefore, placesOf, putAll, placedBack, covers, timesPut, FromEnd, none, next}
 use Rattle.path.proofs.Order.{write-last, order-size}
 
 -- ---- how often a byte is put
@@ -60,8 +61,8 @@ abbrev start : Direction → ℕ → ℕ
 start d found = riddenBefore d found 0
 
 times : (d : Direction) (found : ℕ) (gs : List Leg) (i : ℕ)
-    → timesPut (puts d found gs) i ≡ oneIn (start d found) (start d found + sizeOf gs) i
-unfolding puts timesPut covers sizeOf
+    → timesPut (placesOf d found gs) i ≡ oneIn (start d found) (start d found + sizeOf gs) i
+unfolding placesOf timesPut covers sizeOf
 times d found [] i =
     let a = start d found in
     sym (split (ltb i a) (λ t. in-low a (a + 0) i (ltb-true i a t)) (λ f. in-high a (a + 0) i (omega (arith, ltb-false i a f))))
@@ -82,8 +83,8 @@ unfolding withBytes
 put-none b a = rw (add-zero a) (take-append-drop a b)
 
 all-put : (d : Direction) (found : ℕ) (gs : List Leg) (b : List ℕ) → start d found + sizeOf gs ≤ length b
-    → putAll (puts d found gs) b ≡ withBytes b (start d found) (write (inOrder d gs))
-unfolding puts putAll sizeOf inOrder write
+    → putAll (placesOf d found gs) b ≡ withBytes b (start d found) (write (inOrder d gs))
+unfolding placesOf putAll sizeOf inOrder write
 all-put Departure found [] b h = sym (put-none b 0)
 all-put Arrival found [] b h = sym (put-none b found)
 all-put Departure found (g ∷ gs) b h =
@@ -103,6 +104,29 @@ all-put Arrival found (g ∷ gs) b h =
     all-put Arrival m gs b′ (omega (arith, l))
     ∙ rw x (put-next b found (writeLeg g) (omega (arith, leg-length g)) (write gs))
 
+-- ---- what is not counted
+uncovered : (p : Put) (b : List ℕ) (i : ℕ) → InBuffer (length b) p → covers p i ≡ 0 → getD (withBytes b (p .at) (writeLeg (p .leg))) i 0 ≡ getD b i 0
+unfolding covers
+uncovered p b i h z =
+    let a = p .at in
+    let e = a + length (writeLeg (p .leg)) in
+    split (leb a i)
+    (λ t.
+    split (ltb i e)
+    (λ u. absurd (omega (arith, z, in-one a e i (leb-true a i t) (ltb-true i e u))))
+    (λ u. put-behind b a (writeLeg (p .leg)) h i (ltb-false i e u)))
+    (λ f. put-before b a (writeLeg (p .leg)) h i (leb-false a i f))
+
+within : (d : Direction) (found : ℕ) (gs : List Leg) (room : ℕ) → start d found + sizeOf gs ≤ room → Each (InBuffer room) (placesOf d found gs)
+unfolding placesOf sizeOf
+within d found [] room h = nil
+within Departure found (g ∷ gs) room h =
+    let l : sizeOf gs + length (writeLeg g) ≤ room = omega (arith, leg-length g) in
+    cons l (within Departure (found + legSize (g .kind)) gs room (omega arith))
+within Arrival found (g ∷ gs) room h =
+    let l : found + length (writeLeg g) ≤ room = omega (arith, leg-length g) in
+    cons l (within Arrival (found + legSize (g .kind)) gs room (omega arith))
+
 -- ---- What is promised
 
 -- "put every leg at its final place": the legs, each put as it is found, are the journey in riding order; bytes past it stay
@@ -113,16 +137,30 @@ placed-once Departure gs b h = all-put Departure 0 gs b (omega arith) ∙ rw (ze
 placed-once Arrival gs b h = all-put Arrival 0 gs b (omega arith) ∙ rw (zero-add _, order-size Arrival gs)
 
 -- "Write each leg once": every byte below the journey's length belongs to one leg and is put once, and no other byte is put
-pub places-apart : (d : Direction) (gs : List Leg) (i : ℕ) → timesPut (puts d 0 gs) i ≡ cond (ltb i (sizeOf gs)) 1 0
+pub places-apart : (d : Direction) (gs : List Leg) (i : ℕ) → timesPut (placesOf d 0 gs) i ≡ cond (ltb i (sizeOf gs)) 1 0
 places-apart Departure gs i = times Departure 0 gs i ∙ rw (zero-add (sizeOf gs), le-leb 0 i (omega arith))
 places-apart Arrival gs i = times Arrival 0 gs i ∙ rw (zero-add (sizeOf gs), le-leb 0 i (omega arith))
 
+-- no leg is put past the buffer
+pub places-within : (d : Direction) (gs : List Leg) (room : ℕ) → sizeOf gs ≤ room → Each (InBuffer room) (placesOf d 0 gs)
+places-within Departure gs room h = within Departure 0 gs room (omega arith)
+places-within Arrival gs room h = within Arrival 0 gs room (omega arith)
+
+-- a count of 0 says that the byte stays as it was, whatever is put
+pub uncounted-stays : (ps : List Put) (b : List ℕ) (i : ℕ) → Each (InBuffer (length b)) ps → timesPut ps i ≡ 0 → getD (putAll ps b) i 0 ≡ getD b i 0
+unfolding timesPut putAll
+uncounted-stays [] b i nil z = refl
+uncounted-stays (p ∷ ps) b i (cons l h) z =
+    let y = withBytes b (p .at) (writeLeg (p .leg)) in
+    let long : length y ≡ length b = put-length b (p .at) (writeLeg (p .leg)) l in
+    uncounted-stays ps y i (subst (λ (room : ℕ). Each (InBuffer room) ps) (sym long) h) (omega (arith, z)) ∙ uncovered p b i l (omega (arith, z))
+
 -- "For a departure query the legs come out last first": each ends where the leg behind it begins, and the last leg ends the journey
-pub last-first : (gs : List Leg) → FromEnd (sizeOf gs) (puts Departure 0 gs)
-unfolding puts sizeOf
+pub last-first : (gs : List Leg) → FromEnd (sizeOf gs) (placesOf Departure 0 gs)
+unfolding placesOf sizeOf
 last-first gs = go 0 gs
   where
-    go : (found : ℕ) (gs : List Leg) → FromEnd (sizeOf gs) (puts Departure found gs)
+    go : (found : ℕ) (gs : List Leg) → FromEnd (sizeOf gs) (placesOf Departure found gs)
     go found [] = none
     go found (g ∷ gs) =
         let e : legSize (g .kind) + sizeOf gs ≡ sizeOf gs + length (writeLeg g) = omega (arith, leg-length g) in

@@ -23,7 +23,7 @@ use Rattle.path.specs.declared.Step.{Step}
 use Rattle.path.specs.declared.Step.the-variants.{On, Done}
 use Rattle.path.specs.Step.{stepOf}
 use Rattle.path.specs.Traced.{Traced}
-use Rattle.path.specs.Once.{riddenBefore, puts, putAll, placedBack}
+use Rattle.path.specs.Once.{riddenBefore, placesOf, putAll, placedBack}
 use Rattle.path.proofs.Behind.{first-size, step-back, at-end}
 use Rattle.path.proofs.Counted.{Counted, counted-none, counted-on, size-fits}
 use Rattle.path.proofs.Once.{placed-once}
@@ -36,7 +36,7 @@ pub record Writing (d : Direction) (stops : ℕ) (w : List (Option Leg)) (k₀ s
   pub whole : size ≡ sizeOf (back d stops w stops k₀ s₀)
   pub room : size ≤ length b₀
   pub same : length b ≡ length b₀
-  pub rest : putAll (puts d found (back d stops w stops k s)) b ≡ placedBack d (back d stops w stops k₀ s₀) b₀
+  pub rest : putAll (placesOf d found (back d stops w stops k s)) b ≡ placedBack d (back d stops w stops k₀ s₀) b₀
 
 pub writing-none : {d : Direction} {stops routes : ℕ} {ws : List ℕ} {w : List (Option Leg)} {k s size : ℕ} {b : List ℕ}
     → Words stops routes ws → Traced d stops w k s → k < MOST-ROUNDS → size ≡ sizeOf (back d stops w stops k s) → size ≤ length b
@@ -79,9 +79,9 @@ module _ {d : Direction} {stops : ℕ} {w : List (Option Leg)} {k₀ s₀ size :
         as-long : length y ≡ length b₀
         as-long = rw x (put-length b at (writeLeg g) (omega (arith, leg-fits, leg-length g))) ∙ h .same
 
-        leads : putAll (puts d (found + a) gs) y ≡ placedBack d (back d stops w stops k₀ s₀) b₀
-        unfolding puts putAll
-        leads = rw (x, v, placed) refl ∙ ap (λ l. putAll (puts d found l) b) (sym c) ∙ h .rest
+        leads : putAll (placesOf d (found + a) gs) y ≡ placedBack d (back d stops w stops k₀ s₀) b₀
+        unfolding placesOf putAll
+        leads = rw (x, v, placed) refl ∙ ap (λ l. putAll (placesOf d found l) b) (sym c) ∙ h .rest
 
       -- behind it the way back goes on or ends
       module _ {r : Step} (f : r ≡ stepOf d k g) where
@@ -97,7 +97,7 @@ module _ {d : Direction} {stops : ℕ} {w : List (Option Leg)} {k₀ s₀ size :
             }
 
         pub put-all : r ≡ Done → y ≡ write (inOrder d (back d stops w stops k₀ s₀)) ++ drop size b₀
-        unfolding puts putAll
+        unfolding placesOf putAll
         put-all o =
             leads [] (at-end (h .counted .traced) i q f o)
             ∙ rw (h .whole) (placed-once d (back d stops w stops k₀ s₀) b₀ (omega (arith, h .whole, h .room)))

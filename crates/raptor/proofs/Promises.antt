@@ -7,7 +7,7 @@ use mathlib.Core.Bool.{Bool, true, false, cond, false≢true}
 use mathlib.Core.Logic.{_≢_}
 use mathlib.Core.List.{List, [], _∷_, _++_, List·Memᴰ}
 use native.Mathlib.Omega.{arith}
-use lib.Dec.{leb, eqb}
+use lib.Dec.{leb, ltb, eqb}
 use lib.ListN.{length, take, drop}
 use lib.Seq.{take-at, drop-at}
 use borrow.Author.Tests.{eqb-true, eqb-false, leb-true, leb-false}
@@ -16,6 +16,7 @@ use Rattle.base.specs.Each.{Each}
 use Rattle.shared.specs.declared.Time.{Time}
 use Rattle.model.specs.declared.Answer.{Answer}
 use Rattle.model.specs.declared.Answer.the-variants.{Found, Refused, NoRouteFound, FailedToBuildRoute, TooLong}
+use Rattle.model.specs.declared.Direction.{Direction}
 use Rattle.model.specs.declared.Leg.{Leg}
 use Rattle.model.specs.declared.Query.{Query}
 use Rattle.model.specs.declared.Target.{Target}
@@ -31,6 +32,7 @@ use Rattle.model.specs.Left.{Workspace, workspaceOf, written, journeyLeft}
 use Rattle.model.specs.Bytes.{legs as readAs, write, read, sizeOf, Fits}
 use Rattle.model.specs.Round.{Order, Fair, listed}
 use Rattle.model.specs.Search.{search}
+use Rattle.model.specs.Back.{trace, journey}
 use Rattle.model.specs.Journey.{Departing, Arriving, BothWays, Dated}
 use Rattle.model.specs.AskedFor.{AskedAt, AskedFor}
 use Rattle.model.specs.Sound.{Sound, Asked}
@@ -48,6 +50,9 @@ use Rattle.repository.proofs.Sound.{accepted-sound, accepted-sound-places}
 use Rattle.repository.proofs.Narrow.{accepted-narrow}
 use Rattle.check_tables.proofs.Whole.{accepted-is, check-most}
 use Rattle.allocator.specs.Layout.{view}
+use Rattle.path.specs.Once.{placesOf, placedBack, timesPut}
+use Rattle.path.proofs.Order.{order-size}
+use Rattle.path.proofs.Once.{placed-once, places-apart}
 use Rattle.raptor.specs.Lent.{Lent}
 use Rattle.raptor.specs.Solved.{sized, holds, Ended, WorkspaceLeft, Solved}
 
@@ -270,6 +275,27 @@ module _ (w : List ℕ) (q : Query) (before : Lent) {r : Answer} {after : Lent} 
     -- "On 0 bytes past the journey stay unchanged."
     pub past-unchanged : drop z (after .journey) ≡ drop z (before .journey)
     past-unchanged = ap (drop z) left ∙ drop-at (write (legsOf (netOf w) q)) _ z size ∙ ap (λ (i : ℕ). drop i (before .journey)) size
+
+    -- the direction of the search, and the legs as its way back finds them
+    abbrev toward : Direction
+    toward = (taskOf (netOf w) q) .direction
+
+    abbrev way-back : List Leg
+    way-back = trace (netOf w) (taskOf (netOf w) q) (searched (netOf w) q)
+
+    -- "put every leg at its final place" (document 02): the buffer is as it was lent, with each leg put once, as the way back finds it
+    pub found-placed : after .journey ≡ placedBack toward way-back (before .journey)
+    unfolding legsOf journey
+    found-placed =
+        let long : length (write (legsOf (netOf w) q)) ≡ sizeOf way-back = order-size toward way-back in
+        left ∙ rw long (sym (placed-once toward way-back (before .journey) (omega (arith, long, size, is-found .fits))))
+
+    -- "Write each leg once": every byte below the length that is told belongs to one leg and is put once, and no other byte is put
+    pub found-once : (i : ℕ) → timesPut (placesOf toward 0 way-back) i ≡ cond (ltb i z) 1 0
+    unfolding legsOf journey
+    found-once i =
+        let long : sizeOf way-back ≡ z = sym (order-size toward way-back) ∙ size in
+        places-apart toward way-back i ∙ ap (λ (n : ℕ). cond (ltb i n) 1 0) long
 
     legs-fit : Each Fits (legsOf (netOf w) q)
     unfolding legsOf searched
