@@ -37,6 +37,8 @@ SAYS = {
     "model": "document 01's search, answers, bytes and journeys",
     "names": "names by their numbers, and the book in which their places stand",
     "numbers": "decimal digits, and the moments that a clock shows",
+    "path": "document 02's request 3: where each leg is put, and how often a byte is; and where the way back goes on",
+    "raptor_reply": "the target that a reply is given for, and its legs",
     "raptor": "the contract of `solve`",
     "repository": "the tables: their layout, the network that they hold, the rules that they keep",
     "check_tables": "the numbers 1 to 5",

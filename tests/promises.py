@@ -11,7 +11,7 @@ from reading import HERE, asked_and_said, crates, edits, source, text_of, there
 
 PAGE, COPIES, LIST = "docs/PROMISES.md", "docs/STATEMENTS.md", "tests/sentences.txt"
 # The sum of the sentences that are others' (tests/sentences.txt): to leave one out, one has to change this line as well. `tests/promises.py sum` tells it.
-SUM = "e5582569d3db5e44"
+SUM = "e5271aede96de9d9"
 # Documents 01 and 02, where they are at hand, and the parts of them of which no sentence may be left out: from .. up to ..
 DOCUMENTS = {"document 01": "01-scope.md", "document 02": "02-change-requests.md"}
 WHOLE = {
@@ -21,7 +21,7 @@ WHOLE = {
 # The sections of the three demands, and those of the requests: what their statements speak of must be believed.
 DEMANDS, REQUESTS = (1, 2, 3), (9, 10, 11)
 # What a theorem may suppose of tables, orders and queries: where one that is cited does, a witness is wanted.
-SUPPOSED = ["Accepted", "Laid", "Listed", "Timed", "Ordered", "Measured", "Searchable", "Sound", "SoundPlaces", "Narrow", "Asked", "Fair", "BothWays", "Ways", "Same", "SamePlaces", "Alike", "Orderly", "Countable", "Wider", "FullSize", "BothShort", "AllTaken", "BadInTimes", "BadInTransfers", "FullAt"]
+SUPPOSED = ["Accepted", "Laid", "Listed", "Timed", "Ordered", "Measured", "Searchable", "Sound", "SoundPlaces", "Narrow", "Asked", "Fair", "BothWays", "Ways", "Same", "SamePlaces", "Alike", "Orderly", "Countable", "Wider", "FullSize", "BothShort", "AllTaken", "BadInTimes", "BadInTransfers", "FullAt", "InBuffer"]
 MADE = "<!-- From here on made by tests/promises.py: what the rows cite beside the above, row by row. -->"
 TOKEN = re.compile(r"\[`([^`]+)`\]\(([^)]*)\)|`([^`]+)`")
 BLOCK = re.compile(r'^<a id="[^"]*"></a>\[`([^`]+)`\]\([^)]*\) `([^`]+)`\n\n```text\n(?:(?!```).*\n)*```$', re.M)

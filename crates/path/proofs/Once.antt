@@ -21,7 +21,7 @@ use Rattle.model.specs.Back.{inOrder}
 use Rattle.model.specs.Bytes.{writeLeg, write, legSize, sizeOf}
 use Rattle.model.proofs.ReadBack.{leg-length}
 use Rattle.path.specs.Once.{Put, InBuffer, riddenBefore, placesOf, putAll, placedBack, covers, timesPut, FromEnd, none, next}
-use Rattle.path.proofs.Order.{write-last, order-size}
+use Rattle.path.proofs.Order.{write-last, order-none, order-size}
 
 -- ---- how often a byte is put
 -- 1 where i stands from a up to below e
@@ -56,53 +56,84 @@ meet a m e i h k = split (ltb i m) (λ t. below (ltb-true i m t)) (λ f. above (
         (λ t. let u = ltb-true i e t in omega (arith, left, in-one m e i l u, in-one a e i (omega arith) u))
         (λ f. let u = ltb-false i e f in omega (arith, left, in-high m e i u, in-high a e i u))
 
--- where the first byte of the legs that are left stands
+-- ---- a leg of n bytes, and `left` bytes of legs left to find: together they take n + left bytes from `start` on
 abbrev start : Direction → ℕ → ℕ
 start d found = riddenBefore d found 0
 
-times : (d : Direction) (found : ℕ) (gs : List Leg) (i : ℕ)
-    → timesPut (placesOf d found gs) i ≡ oneIn (start d found) (start d found + sizeOf gs) i
-unfolding placesOf timesPut covers sizeOf
-times d found [] i =
-    let a = start d found in
-    sym (split (ltb i a) (λ t. in-low a (a + 0) i (ltb-true i a t)) (λ f. in-high a (a + 0) i (omega (arith, ltb-false i a f))))
-times Departure found (g ∷ gs) i =
-    let s = sizeOf gs in
-    let e : 0 + (legSize (g .kind) + s) ≡ s + legSize (g .kind) = omega arith in
-    rw (leg-length g, times Departure (found + legSize (g .kind)) gs i, zero-add s, e)
-    (omega (arith, meet 0 s (s + legSize (g .kind)) i (omega arith) (omega arith)))
-times Arrival found (g ∷ gs) i =
-    let m = found + legSize (g .kind) in
-    let s = sizeOf gs in
-    let e : found + (legSize (g .kind) + s) ≡ m + s = omega arith in
-    rw (leg-length g, times Arrival m gs i, e) (meet found m (m + s) i (omega arith) (omega arith))
+module _ (n left : ℕ) where
+  -- byte i is one of them where it is the leg's, or one of those that are left, and never both
+  apart : (d : Direction) (found i : ℕ)
+      → oneIn (riddenBefore d found left) (riddenBefore d found left + n) i + oneIn (start d (found + n)) (start d (found + n) + left) i
+      ≡ oneIn (start d found) (start d found + (n + left)) i
+  apart Departure found i =
+      let e : 0 + (n + left) ≡ left + n = omega arith in
+      rw (zero-add left, e) (omega (arith, meet 0 left (left + n) i (omega arith) (omega arith)))
+  apart Arrival found i =
+      let e : found + (n + left) ≡ found + n + left = omega arith in
+      rw e (meet found (found + n) (found + n + left) i (omega arith) (omega arith))
 
--- ---- what then stands there
-put-none : (b : List ℕ) (a : ℕ) → withBytes b a [] ≡ b
-unfolding withBytes
-put-none b a = rw (add-zero a) (take-append-drop a b)
+  leg-in : (d : Direction) (found : ℕ) → riddenBefore d found left + n ≤ start d found + (n + left)
+  leg-in Departure found = omega arith
+  leg-in Arrival found = omega arith
 
-all-put : (d : Direction) (found : ℕ) (gs : List Leg) (b : List ℕ) → start d found + sizeOf gs ≤ length b
-    → putAll (placesOf d found gs) b ≡ withBytes b (start d found) (write (inOrder d gs))
-unfolding placesOf putAll sizeOf inOrder write
-all-put Departure found [] b h = sym (put-none b 0)
-all-put Arrival found [] b h = sym (put-none b found)
-all-put Departure found (g ∷ gs) b h =
+  rest-in : (d : Direction) (found : ℕ) → start d (found + n) + left ≤ start d found + (n + left)
+  rest-in Departure found = omega arith
+  rest-in Arrival found = omega arith
+
+-- the leg put to its place, and then those that are left as one part, are all of them as one part
+joined : (d : Direction) (found : ℕ) (g : Leg) (gs : List Leg) (b : List ℕ) → start d found + (legSize (g .kind) + sizeOf gs) ≤ length b
+    → withBytes (withBytes b (riddenBefore d found (sizeOf gs)) (writeLeg g)) (start d (found + legSize (g .kind))) (write (inOrder d gs))
+    ≡ withBytes b (start d found) (write (inOrder d (g ∷ gs)))
+unfolding inOrder write
+joined Departure found g gs b h =
     let p = write (reverse gs) in
-    let s : length p ≡ sizeOf gs = order-size Departure gs in
-    let b′ = withBytes b (sizeOf gs) (writeLeg g) in
-    let l : length b′ ≡ length b = put-length b (sizeOf gs) (writeLeg g) (omega (arith, leg-length g)) in
-    let x : sizeOf gs ≡ 0 + length p = omega (arith, s) in
+    let long : sizeOf gs ≡ 0 + length p = omega (arith, order-size Departure gs) in
     let last : write (reverse (g ∷ gs)) ≡ p ++ writeLeg g = ap write (reverse-cons g gs) ∙ write-last (reverse gs) g in
-    all-put Departure (found + legSize (g .kind)) gs b′ (omega (arith, l))
-    ∙ rw (x, last) (put-first b 0 p (omega (arith, s)) (writeLeg g))
-all-put Arrival found (g ∷ gs) b h =
-    let m = found + legSize (g .kind) in
-    let b′ = withBytes b found (writeLeg g) in
-    let l : length b′ ≡ length b = put-length b found (writeLeg g) (omega (arith, leg-length g)) in
-    let x : m ≡ found + length (writeLeg g) = omega (arith, leg-length g) in
-    all-put Arrival m gs b′ (omega (arith, l))
-    ∙ rw x (put-next b found (writeLeg g) (omega (arith, leg-length g)) (write gs))
+    rw (long, last) (put-first b 0 p (omega (arith, long)) (writeLeg g))
+joined Arrival found g gs b h =
+    let long : found + legSize (g .kind) ≡ found + length (writeLeg g) = omega (arith, leg-length g) in
+    rw long (put-next b found (writeLeg g) (omega (arith, leg-length g)) (write gs))
+
+-- ---- all legs
+module _ (d : Direction) where
+  times : (found : ℕ) (gs : List Leg) (i : ℕ) → timesPut (placesOf d found gs) i ≡ oneIn (start d found) (start d found + sizeOf gs) i
+  unfolding placesOf timesPut covers sizeOf
+  times found [] i =
+      let a = start d found in
+      sym (split (ltb i a) (λ t. in-low a (a + 0) i (ltb-true i a t)) (λ f. in-high a (a + 0) i (omega (arith, ltb-false i a f))))
+  times found (g ∷ gs) i =
+      let n = legSize (g .kind) in
+      rw (leg-length g, times (found + n) gs i) (apart n (sizeOf gs) d found i)
+
+  put-none : (b : List ℕ) (a : ℕ) → withBytes b a (write (inOrder d [])) ≡ b
+  unfolding withBytes
+  put-none b a = rw (order-none d, add-zero a) (take-append-drop a b)
+
+  all-put : (found : ℕ) (gs : List Leg) (b : List ℕ) → start d found + sizeOf gs ≤ length b
+      → putAll (placesOf d found gs) b ≡ withBytes b (start d found) (write (inOrder d gs))
+  unfolding placesOf putAll sizeOf
+  all-put found [] b h = sym (put-none b (start d found))
+  all-put found (g ∷ gs) b h =
+      let n = legSize (g .kind) in
+      let at = riddenBefore d found (sizeOf gs) in
+      let long = put-length b at (writeLeg g) (omega (arith, h, leg-length g, leg-in n (sizeOf gs) d found)) in
+      all-put (found + n) gs (withBytes b at (writeLeg g)) (omega (arith, h, long, rest-in n (sizeOf gs) d found)) ∙ joined d found g gs b h
+
+  within : (found : ℕ) (gs : List Leg) (room : ℕ) → start d found + sizeOf gs ≤ room → Each (InBuffer room) (placesOf d found gs)
+  unfolding placesOf sizeOf
+  within found [] room h = nil
+  within found (g ∷ gs) room h =
+      let n = legSize (g .kind) in
+      let l : riddenBefore d found (sizeOf gs) + length (writeLeg g) ≤ room = omega (arith, h, leg-length g, leg-in n (sizeOf gs) d found) in
+      cons l (within (found + n) gs room (omega (arith, h, rest-in n (sizeOf gs) d found)))
+
+  -- before the first leg nothing is ridden
+  none-before : start d 0 ≡ 0
+  none-before = go d
+    where
+      go : (d : Direction) → start d 0 ≡ 0
+      go Departure = refl
+      go Arrival = refl
 
 -- ---- what is not counted
 uncovered : (p : Put) (b : List ℕ) (i : ℕ) → InBuffer (length b) p → covers p i ≡ 0 → getD (withBytes b (p .at) (writeLeg (p .leg))) i 0 ≡ getD b i 0
@@ -117,34 +148,23 @@ uncovered p b i h z =
     (λ u. put-behind b a (writeLeg (p .leg)) h i (ltb-false i e u)))
     (λ f. put-before b a (writeLeg (p .leg)) h i (leb-false a i f))
 
-within : (d : Direction) (found : ℕ) (gs : List Leg) (room : ℕ) → start d found + sizeOf gs ≤ room → Each (InBuffer room) (placesOf d found gs)
-unfolding placesOf sizeOf
-within d found [] room h = nil
-within Departure found (g ∷ gs) room h =
-    let l : sizeOf gs + length (writeLeg g) ≤ room = omega (arith, leg-length g) in
-    cons l (within Departure (found + legSize (g .kind)) gs room (omega arith))
-within Arrival found (g ∷ gs) room h =
-    let l : found + length (writeLeg g) ≤ room = omega (arith, leg-length g) in
-    cons l (within Arrival (found + legSize (g .kind)) gs room (omega arith))
-
 -- ---- What is promised
 
 -- "put every leg at its final place": the legs, each put as it is found, are the journey in riding order; bytes past it stay
 pub placed-once : (d : Direction) (gs : List Leg) (b : List ℕ) → sizeOf gs ≤ length b
     → placedBack d gs b ≡ write (inOrder d gs) ++ drop (sizeOf gs) b
 unfolding placedBack withBytes
-placed-once Departure gs b h = all-put Departure 0 gs b (omega arith) ∙ rw (zero-add _, order-size Departure gs)
-placed-once Arrival gs b h = all-put Arrival 0 gs b (omega arith) ∙ rw (zero-add _, order-size Arrival gs)
+placed-once d gs b h =
+    let z = none-before d in
+    all-put d 0 gs b (omega (arith, z, h)) ∙ rw (z, zero-add _, order-size d gs)
 
 -- "Write each leg once": every byte below the journey's length belongs to one leg and is put once, and no other byte is put
 pub places-apart : (d : Direction) (gs : List Leg) (i : ℕ) → timesPut (placesOf d 0 gs) i ≡ cond (ltb i (sizeOf gs)) 1 0
-places-apart Departure gs i = times Departure 0 gs i ∙ rw (zero-add (sizeOf gs), le-leb 0 i (omega arith))
-places-apart Arrival gs i = times Arrival 0 gs i ∙ rw (zero-add (sizeOf gs), le-leb 0 i (omega arith))
+places-apart d gs i = times d 0 gs i ∙ rw (none-before d, zero-add (sizeOf gs), le-leb 0 i (omega arith))
 
 -- no leg is put past the buffer
 pub places-within : (d : Direction) (gs : List Leg) (room : ℕ) → sizeOf gs ≤ room → Each (InBuffer room) (placesOf d 0 gs)
-places-within Departure gs room h = within Departure 0 gs room (omega arith)
-places-within Arrival gs room h = within Arrival 0 gs room (omega arith)
+places-within d gs room h = within d 0 gs room (omega (arith, none-before d, h))
 
 -- a count of 0 says that the byte stays as it was, whatever is put
 pub uncounted-stays : (ps : List Put) (b : List ℕ) (i : ℕ) → Each (InBuffer (length b)) ps → timesPut ps i ≡ 0 → getD (putAll ps b) i 0 ≡ getD b i 0
@@ -155,7 +175,8 @@ uncounted-stays (p ∷ ps) b i (cons l h) z =
     let long : length y ≡ length b = put-length b (p .at) (writeLeg (p .leg)) l in
     uncounted-stays ps y i (subst (λ (room : ℕ). Each (InBuffer room) ps) (sym long) h) (omega (arith, z)) ∙ uncovered p b i l (omega (arith, z))
 
--- "For a departure query the legs come out last first": each ends where the leg behind it begins, and the last leg ends the journey
+-- "For a departure query the legs come out last first": each ends where the leg found before it begins, and the first that is found ends
+-- the journey
 pub last-first : (gs : List Leg) → FromEnd (sizeOf gs) (placesOf Departure 0 gs)
 unfolding placesOf sizeOf
 last-first gs = go 0 gs

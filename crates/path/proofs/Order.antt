@@ -1,6 +1,6 @@
 -- The legs in riding order, as bytes: they take as many as in the order in which they are found, and a leg behind all others is written last.
 -- Assumes nothing.
-use mathlib.Core.Path.{_≡_, sym, _∙_}
+use mathlib.Core.Path.{_≡_, refl, sym, _∙_}
 use mathlib.Core.List.{List, [], _∷_, _++_, append-assoc, append-nil, reverse}
 use native.Mathlib.Nat.{add-zero}
 use lib.ListN.{length}
@@ -21,3 +21,8 @@ pub order-size : (d : Direction) (gs : List Leg) → length (write (inOrder d gs
 unfolding inOrder sizeOf
 order-size Departure gs = size-is (reverse gs) ∙ reverse-size gs [] ∙ add-zero (sizeOf gs)
 order-size Arrival gs = size-is gs
+
+pub order-none : (d : Direction) → write (inOrder d []) ≡ []
+unfolding inOrder write
+order-none Departure = refl
+order-none Arrival = refl

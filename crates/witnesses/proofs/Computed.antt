@@ -9,6 +9,7 @@ use borrow.Author.Tests.{le-leb, eq-eqb}
 use Rattle.base.specs.Tab.{tab}
 use Rattle.model.specs.declared.Answer.{Answer}
 use Rattle.model.specs.declared.Answer.the-variants.{Found, TooLong}
+use Rattle.model.specs.declared.Direction.the-variants.{Departure as Departing}
 use Rattle.model.specs.declared.Leg.{Leg}
 use Rattle.model.specs.declared.LegType.the-variants.{Transit, Transfer}
 use Rattle.model.specs.declared.Location.the-variants.{Stop}
@@ -39,6 +40,7 @@ use Rattle.repository.specs.Sections.{size, sec}
 use Rattle.repository.specs.NetOf.{count, listOf, transferRow, walkRow, stationOf, netOf}
 use Rattle.check_tables.proofs.Examples.{N, N9}
 use Rattle.allocator.specs.Layout.{wordsRoom, marksRoom}
+use Rattle.path.proofs.Examples.{first, second, third}
 use Rattle.raptor.specs.Lent.{lent}
 use Rattle.raptor.specs.Solved.{placesRoom, roomFor, sized}
 
@@ -94,6 +96,15 @@ N9-legs =
 pub N1-searched : legsOf (netOf N) from-0-at-50 ≡ N1-legs
 unfolding computed
 N1-searched = refl
+
+-- and as the way back of a departure search finds them, the last first
+pub N1-toward : (taskOf (netOf N) from-0-at-50) .direction ≡ Departing
+unfolding computed
+N1-toward = refl
+
+pub N1-found : trace (netOf N) (taskOf (netOf N) from-0-at-50) (searched (netOf N) from-0-at-50) ≡ third ∷ second ∷ first ∷ []
+unfolding computed first second third
+N1-found = refl
 
 -- the answer, with a buffer of `room` bytes
 pub N1-answered : (room : ℕ) → 59 ≤ room → answer 0 true (netOf N) from-0-at-50 room ≡ Found (record { 0 = 450 }) 4 1 59

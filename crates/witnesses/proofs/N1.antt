@@ -1,9 +1,10 @@
 -- From words to an answer: on the accepted words of network N, `solve`'s contract gives N1's answer and legs, whatever was lent, and N10's. So the
 -- promises on tables, on departure queries and on orders are about something.
 use Prim.Native.Nat.{ℕ, suc, _≤_}
-use mathlib.Core.Path.{_≡_, refl, ap, _∙_, subst₂}
-use mathlib.Core.Bool.{Bool, true}
+use mathlib.Core.Path.{_≡_, refl, sym, ap, _∙_, subst₂}
+use mathlib.Core.Bool.{Bool, true, cond}
 use mathlib.Core.List.{List, [], _∷_}
+use lib.Dec.{ltb}
 use lib.ListN.{length, take}
 use Rattle.base.specs.Each.{Each}
 use Rattle.model.specs.declared.Answer.{Answer}
@@ -15,6 +16,7 @@ use Rattle.model.specs.Bytes.{legs, write, read}
 use Rattle.model.specs.Answer.{mayWalk, taskOf, searched, legsBy, answer, ran}
 use Rattle.model.specs.Work.{SameTimes}
 use Rattle.model.specs.Search.{search}
+use Rattle.model.specs.Back.{trace}
 use Rattle.model.specs.Journey.{Departing, Dated}
 use Rattle.model.specs.AskedFor.{AskedFor}
 use Rattle.model.specs.Sound.{Sound, SoundPlaces}
@@ -27,11 +29,13 @@ use Rattle.repository.proofs.Sound.{accepted-sound, accepted-sound-places}
 use Rattle.check_tables.proofs.Examples.{N, N-accepted}
 use Rattle.check_tables.proofs.Whole.{accepted-is}
 use Rattle.allocator.specs.Layout.{view}
+use Rattle.path.specs.Once.{Put, placesOf, putAll, placedBack, timesPut}
+use Rattle.path.proofs.Examples.{first, second, third, departure-places}
 use Rattle.raptor.specs.Lent.{Lent}
 use Rattle.raptor.specs.Solved.{sized, Solved}
-use Rattle.raptor.proofs.Promises.{journey-bytes, reads-back, departure-journey, any-order, any-order-journey, journey-moments, too-long-journey}
+use Rattle.raptor.proofs.Promises.{journey-bytes, found-placed, found-once, reads-back, departure-journey, any-order, any-order-journey, journey-moments, too-long-journey}
 use Rattle.witnesses.proofs.Turned.{turned, turned-fair}
-use Rattle.witnesses.proofs.Computed.{N-alike, from-0-at-50, N1-legs, N1-searched, N1-answered, N10-answered, N-places}
+use Rattle.witnesses.proofs.Computed.{N-alike, from-0-at-50, N1-legs, N1-searched, N1-toward, N1-found, N1-answered, N10-answered, N-places}
 
 -- `accepted-sound` and `accepted-sound-places`, of words that are accepted
 pub N-words-sound : Sound (netOf N)
@@ -53,6 +57,10 @@ answered w ok q {before} h roomy =
     ∙ ap (λ (c : ℕ). answer c (sized (netOf w) before) (netOf w) q (length (before .journey))) (accepted-is w .1 ok)
     ∙ ap (λ (b : Bool). answer 0 b (netOf w) q (length (before .journey))) roomy
 
+-- where N1's legs go, as they are found
+abbrev pub N1-places : List Put
+N1-places = record { leg = third; at = 38 } ∷ record { leg = second; at = 21 } ∷ record { leg = first; at = 0 } ∷ []
+
 -- and a buffer of 59 bytes or more
 module _ {before : Lent} {r : Answer} {after : Lent} (h : Solved N from-0-at-50 before r after)
     (roomy : sized (netOf N) before ≡ true) (enough : 59 ≤ length (before .journey)) where
@@ -66,6 +74,19 @@ module _ {before : Lent} {r : Answer} {after : Lent} (h : Solved N from-0-at-50 
 
   pub N1-read : read (take 59 (after .journey)) ≡ legs N1-legs
   N1-read = reads-back N from-0-at-50 before h N1-answer ∙ ap legs N1-searched
+
+  N1-found-places : placesOf ((taskOf (netOf N) from-0-at-50) .direction) 0 (trace (netOf N) (taskOf (netOf N) from-0-at-50) (searched (netOf N) from-0-at-50))
+      ≡ N1-places
+  N1-found-places = rw (N1-found, N1-toward) departure-places
+
+  -- `found-placed`, applied: the last ride is put to byte 38, the transfer to 21, the first ride to 0 ..
+  pub N1-placed : after .journey ≡ putAll N1-places (before .journey)
+  unfolding placedBack
+  N1-placed = found-placed N from-0-at-50 before h N1-answer ∙ ap (λ (ps : List Put). putAll ps (before .journey)) N1-found-places
+
+  -- .. and `found-once`: each of the 59 bytes once, and no other
+  pub N1-once : (i : ℕ) → timesPut N1-places i ≡ cond (ltb i 59) 1 0
+  N1-once i = sym (ap (λ (ps : List Put). timesPut ps i) N1-found-places) ∙ found-once N from-0-at-50 before h N1-answer i
 
   -- `departure-journey`, applied: they start at stop 0 not before 50 and come to stop 4 at 450 with two rides
   pub N1-departs : Departing (netOf N) true (0 ∷ []) 50 4 450 2 N1-legs
