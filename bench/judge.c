@@ -73,23 +73,6 @@ static void draw_answers(sent *s, int count) {
         if (answer_of(&all.plain)[0] == 0) keep(&s[k++], &q[i], journey_of(&all.plain), answer_of(&all.plain)[4]);
     }
 }
-/* The longest there can be, but for one leg, as in tests/face/long.py: 14 rides from stop to stop, then one of many slow buses, and on foot past all. */
-static void make_longest(network *n) {
-    enum { HUBS = 14, ALONG = 127, ALL = 4096 };
-    empty_network(n);
-    n->stops = ALL;
-    for (uint32_t h = 0; h < HUBS; h++, n->routes++, n->trips++) {
-        ADD(&n->route_stops, n->routes, h), ADD(&n->route_stops, n->routes, h + 1), ADD(&n->route_trips, n->routes, n->trips);
-        ADD(&n->times, n->trips, 10 * h + 10, 10 * h + 10), ADD(&n->times, n->trips, 10 * h + 15, 10 * h + 15);
-    }
-    for (uint32_t first = HUBS + 1; first < ALL; first += ALONG, n->routes++, n->trips++) {
-        ADD(&n->route_stops, n->routes, HUBS), ADD(&n->route_trips, n->routes, n->trips), ADD(&n->times, n->trips, 1000, 1000);
-        for (uint32_t s = first; s < ALL && s < first + ALONG; s++)
-            ADD(&n->route_stops, n->routes, s), ADD(&n->times, n->trips, 1000 + 2 * s, 1000 + 2 * s);
-    }
-    for (uint32_t s = HUBS + 1; s + 1 < ALL; s++) ADD(&n->transfers, s, s + 1, 1, 0);
-}
-
 /* ---- the table */
 
 static double print_judged(const char *what, sent *s, int count) {
@@ -121,9 +104,8 @@ int judging(void) {
     print_judged("limit: as the search answers", s, SENT);
     make_longest(&city_lists);
     make_lists_ready();
-    query q = { .to = 4095, .moment = 1 };
-    ask(plain_solve, city.word, city.len, &all.plain, &q);
-    keep(&s[0], &q, journey_of(&all.plain), answer_of(&all.plain)[4]);
+    ask(plain_solve, city.word, city.len, &all.plain, &longest_query);
+    keep(&s[0], &longest_query, journey_of(&all.plain), answer_of(&all.plain)[4]);
     print_judged("the longest", s, 1);
     printf("\nEach of them gets a yes");
     if (has_ours) printf("; at the limits a journey of 15 rides is judged in %.2g of the time of a search, and a fifth of it may be taken", part);

@@ -5,8 +5,8 @@
    A round asks both all the queries of a kind, or checks the tables with both: of each query the old one, then the new one, or the other way
    round, in the same workspace, so that other work on the machine meets both alike; what is counted is the processor's time. Printed are the
    medians over the rounds in microseconds, and that of the rounds' quotients, with those that a quarter of the rounds are below and above; and
-   the quotient of the least times: of each query the least over the rounds, summed. The last two kinds ask the old one alone, as if it were both:
-   their quotients are the noise. An old library that has the layout before is given the city in that one. */
+   the quotient of the least times: of each query the least over the rounds, summed. Where it says so the old one is asked alone, as if it were
+   both: these quotients are the noise. The longest journey has 4,095 legs, so that what writes them counts for something. An old library that has the layout before is given the city in that one. */
 #include <stdio.h>
 #include <stdlib.h>
 #include <string.h>
@@ -53,30 +53,33 @@ static flat before_standing(const flat *f) {
     return older;
 }
 
+static network lists;
+
+/* The network's tables for both, and what is lent to both. */
 static void make_ready(void) {
-    network n = { 0 };
-    make_city(&n, limit_city, 1);
-    flatten(&n, &city[NEW]);
+    flatten(&lists, &city[NEW]);
     city[OLD] = city[NEW];
     if (old_kiosk_check(city[OLD].word, city[OLD].len) != 0) city[OLD] = before_standing(&city[NEW]);
-    if (old_kiosk_check(city[OLD].word, city[OLD].len) != 0 || kiosk_check(city[NEW].word, city[NEW].len) != 0) end("the city is refused");
+    if (old_kiosk_check(city[OLD].word, city[OLD].len) != 0 || kiosk_check(city[NEW].word, city[NEW].len) != 0) end("the network is refused");
     for (int i = 0; i < BOTH; i++) {
         right_lengths(city[NEW].word, given[i].len);
         given[i].len[JOURNEY] = KIOSK_MOST_JOURNEY, given[i].len[ANSWER] = 5;
-        for (int k = 0; k < SLICES; k++) given[i].at[k] = malloc(bytes_of(&given[i], k));
+        for (int k = 0; k < SLICES; k++) free(given[i].at[k]), given[i].at[k] = malloc(bytes_of(&given[i], k));
     }
 }
 
+/* Whether a journey is found. Both must give the same. */
+static int found(const query *q) {
+    for (int i = 0; i < BOTH; i++) for (int s = 0; s < SLICES; s++) memset(given[i].at[s], JUNK, bytes_of(&given[i], s));
+    by_old(&given[OLD], q), by_new(&given[NEW], q);
+    for (int s = 0; s < SLICES; s++) if (memcmp(given[OLD].at[s], given[NEW].at[s], bytes_of(&given[OLD], s)) != 0) end(slice_name[s]);
+    return answer_of(&given[OLD])[0] == 0;
+}
+
 static void draw(uint32_t when, uint32_t mode, query *q) {
-    static network n;
-    if (n.stops == 0) make_city(&n, limit_city, 1);
     for (int k = 0; k < QUERIES;) {
-        q[k] = city_query(&n, when, mode);
-        if (refusal(city[NEW].word, &q[k])) continue;
-        for (int i = 0; i < BOTH; i++) for (int s = 0; s < SLICES; s++) memset(given[i].at[s], JUNK, bytes_of(&given[i], s));
-        by_old(&given[OLD], &q[k]), by_new(&given[NEW], &q[k]);
-        for (int s = 0; s < SLICES; s++) if (memcmp(given[OLD].at[s], given[NEW].at[s], bytes_of(&given[OLD], s)) != 0) end(slice_name[s]);
-        k += answer_of(&given[OLD])[0] == 0;            /* journeys that are found */
+        q[k] = city_query(&lists, when, mode);
+        k += refusal(city[NEW].word, &q[k]) == 0 && found(&q[k]);
     }
 }
 
@@ -118,6 +121,7 @@ int main(int argc, char **argv) {
     query q[QUERIES];
     int rounds = argc > 1 ? atoi(argv[1]) : 31;
     if (rounds < 1 || rounds > MOST_ROUNDS) end("old_and_new [ROUNDS]");
+    make_city(&lists, limit_city, 1);
     make_ready();
     seed_dice(1, 0);
     printf("| at the limits | old | new | new / old | a quarter below and above | of the least |\n|---|---|---|---|---|---|\n");
@@ -130,5 +134,11 @@ int main(int argc, char **argv) {
     draw(0, 0, q);
     compare("departure, old and old", alone, q, QUERIES, rounds);
     compare("the check, old and old", alone, NULL, CHECKS, rounds);
+    make_longest(&lists);
+    make_ready();
+    for (int k = 0; k < QUERIES; k++) q[k] = longest_query;
+    if (!found(q)) end("the longest journey is not found");
+    compare("the longest journey", both, q, QUERIES, rounds);
+    compare("the longest journey, old and old", alone, q, QUERIES, rounds);
     return 0;
 }

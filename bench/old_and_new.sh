@@ -8,7 +8,7 @@ root=$(cd "$(dirname "$0")/.." && pwd)
 out=$root/target/bench
 mkdir -p "$out"
 set --
-for f in check room solve solve_checked read leg; do set -- "$@" --redefine-sym "kiosk_$f=old_kiosk_$f"; done
+for f in $(nm -g --defined-only "$old" | sed -n 's/^.* T //p'); do set -- "$@" --redefine-sym "$f=old_$f"; done
 objcopy "$@" "$old" "$out/old-kiosk_c.a"
 set -- "$root/bench/old_and_new.c"
 for f in city dice network face; do set -- "$@" "$root/compare/$f.c"; done

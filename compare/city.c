@@ -1,4 +1,4 @@
-/* Cities made up by seed, and queries in them. */
+/* Cities made up by seed, and queries in them; and the network of the longest journey. */
 #include "city.h"
 #include "dice.h"
 #include "../plain/tables.h"
@@ -61,3 +61,21 @@ query city_query(const network *n, uint32_t when, uint32_t mode) {
     q.to_kind = below_n(8) == 0, q.to = below_n(q.to_kind ? n->areas : n->stops);
     return q;
 }
+
+/* 14 rides from stop to stop, then one of many slow buses, and on foot past all. */
+void make_longest(network *n) {
+    enum { HUBS = 14, ALONG = 127 };
+    empty_network(n);
+    n->stops = MOST_STOPS;
+    for (uint32_t h = 0; h < HUBS; h++, n->routes++, n->trips++) {
+        ADD(&n->route_stops, n->routes, h), ADD(&n->route_stops, n->routes, h + 1), ADD(&n->route_trips, n->routes, n->trips);
+        ADD(&n->times, n->trips, 10 * h + 10, 10 * h + 10), ADD(&n->times, n->trips, 10 * h + 15, 10 * h + 15);
+    }
+    for (uint32_t first = HUBS + 1; first < MOST_STOPS; first += ALONG, n->routes++, n->trips++) {
+        ADD(&n->route_stops, n->routes, HUBS), ADD(&n->route_trips, n->routes, n->trips), ADD(&n->times, n->trips, 1000, 1000);
+        for (uint32_t s = first; s < MOST_STOPS && s < first + ALONG; s++)
+            ADD(&n->route_stops, n->routes, s), ADD(&n->times, n->trips, 1000 + 2 * s, 1000 + 2 * s);
+    }
+    for (uint32_t s = HUBS + 1; s + 1 < MOST_STOPS; s++) ADD(&n->transfers, s, s + 1, 1, 0);
+}
+const query longest_query = { .to = MOST_STOPS - 1, .moment = 1 };

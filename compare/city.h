@@ -1,4 +1,4 @@
-/* Cities made up by seed, of any size up to document 01's limits, and queries in them. */
+/* Cities made up by seed, of any size up to document 01's limits, and queries in them; and the network of the longest journey. */
 #ifndef COMPARE_CITY_H
 #define COMPARE_CITY_H
 
@@ -12,5 +12,9 @@ extern const grid limit_city;           /* at every limit */
 
 void make_city(network *n, grid z, uint64_t seed);
 query city_query(const network *n, uint32_t when, uint32_t mode);       /* by day */
+
+/* A network with the longest journey there can be, but for one leg, and the query that it answers; as in tests/face/long.py. */
+void make_longest(network *n);
+extern const query longest_query;
 
 #endif

@@ -1,6 +1,7 @@
 /* "Write each leg once" (document 02): how often each byte of the journey buffer is stored to while a search answers.
 
-   stores SOLVER CASES COUNT SEED    the queries of CASES, those of COUNT small nasty networks, and some in a city at the limits, in both modes
+   stores SOLVER CASES COUNT SEED    the queries of CASES, those of COUNT small nasty networks, some in a city at the limits, in both
+                                     modes, and the longest journey
 
    SOLVER is `proved`, or one of stores_wrong.c. Each is compiled so that every store that it makes is told here before it is made (stores.sh).
    A query is asked with room to spare, with exactly the room that its journey takes, and with one byte less. On 0 each byte of the journey must be stored
@@ -121,6 +122,8 @@ int main(int argc, char **argv) {
     }
     make_city(&n, limit_city, seed), flatten(&n, &t);
     for (int k = 0; k < 40; k++) q = city_query(&n, k % 2, k / 2 % 2), ask_thrice(f, &t, &q, KIOSK_MOST_JOURNEY);
+    make_longest(&n), flatten(&n, &t);
+    ask_thrice(f, &t, &longest_query, KIOSK_MOST_JOURNEY);
     printf("%s: %lu calls, %lu journeys (%lu of departure queries) of %lu bytes, %lu times 12, %lu other refusals; a store is wrong in %lu; "
            "a caller sees a difference in %lu\n", argv[1], sum.asked, sum.found, sum.departures, sum.bytes, sum.long_, sum.none, sum.seen, sum.differ);
     return sum.found == 0 || sum.long_ == 0 || sum.none == 0;

@@ -274,6 +274,8 @@ MUTATIONS = [
     ("a line more to be believed", lambda: sub("crates/model/specs/Spans.antt", "\nuse ", "\n-- one line more\nuse "), False, PROMISES, "what must be believed is not what is counted"),
     ("an arrival query's footpaths that nobody lists both ways", lambda: write(PAGE, re.sub(r"^\| `Ways`.*\n", "", read(PAGE), flags=re.M)), True, PROMISES, "found-gets-yes supposes Ways, and no witness is named"),
     ("a sentence of request 2 that is passed over", lambda: sub(LIST, "10.6 No legs is a no.", "10.6 No legs is a yes."), True, PROMISES, "the sentences are not those that were agreed"),
+    ("a sentence of request 3 that is passed over", lambda: sub(LIST, "11.1 Write each leg once.", "11.1 Write each leg."), True, PROMISES, "the sentences are not those that were agreed"),
+    ("a leg that may be put past the buffer", lambda: write(PAGE, re.sub(r"^\| `InBuffer`.*\n", "", read(PAGE), flags=re.M)), True, PROMISES, "uncounted-stays supposes InBuffer, and no witness is named"),
     ("a line more to be believed for a request", lambda: sub("crates/feed/specs/Refused.antt", "\nuse ", "\n-- one line more\nuse "), False, PROMISES, "what must be believed is not what is counted"),
     ("a file more to be believed", believed_unlisted, False, PROMISES, "what must be believed is not what is counted"),
     ("more taken from the kit", lambda: sub("crates/model/specs/Spans.antt", "\nuse ", "\nuse lib.Perm.{perm}\nuse "), False, PROMISES, "what is taken from the kit"),

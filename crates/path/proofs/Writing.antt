@@ -96,8 +96,22 @@ module _ {d : Direction} {stops : ℕ} {w : List (Option Leg)} {k₀ s₀ size :
               rest = leads _ c;
             }
 
-        pub put-all : r ≡ Done → y ≡ write (inOrder d (back d stops w stops k₀ s₀)) ++ drop size b₀
+        pub put-all : r ≡ Done → y ≡ placedBack d (back d stops w stops k₀ s₀) b₀
         unfolding placesOf putAll
-        put-all o =
-            leads [] (at-end (h .counted .traced) i q f o)
-            ∙ rw (h .whole) (placed-once d (back d stops w stops k₀ s₀) b₀ (omega (arith, h .whole, h .room)))
+        put-all o = leads [] (at-end (h .counted .traced) i q f o)
+
+-- ---- the direction of the search is c
+module _ {d c : Direction} (f : d ≡ c) {stops : ℕ} {w : List (Option Leg)} {k s : ℕ} where
+  pub traced-as : Traced d stops w k s → Traced c stops w k s
+  traced-as h = rw (← f) h
+
+module _ {d c : Direction} (f : d ≡ c) (stops : ℕ) (w : List (Option Leg)) (k s : ℕ) where
+  pub size-as : {size : ℕ} → size ≡ sizeOf (back d stops w stops k s) → size ≡ sizeOf (back c stops w stops k s)
+  size-as h = rw (← f) h
+
+  -- "put every leg at its final place": so the journey stands there in riding order
+  pub written-as : (b : List ℕ) {y : List ℕ} {size : ℕ} → size ≡ sizeOf (back d stops w stops k s) → size ≤ length b
+      → y ≡ placedBack c (back c stops w stops k s) b → y ≡ write (inOrder d (back d stops w stops k s)) ++ drop size b
+  written-as b e l h =
+      let gs = back d stops w stops k s in
+      h ∙ rw (← f, e) (placed-once d gs b (omega (arith, e, l)))

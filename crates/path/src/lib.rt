@@ -14,7 +14,7 @@ ghost use Rattle.model.specs.Bytes.{write, sizeOf};
 ghost use Rattle.allocator.specs.Layout.{Words, parentsOf};
 ghost use Rattle.path.specs.Step.{lowers, stepOf};
 ghost use Rattle.path.specs.Traced.{Traced};
-ghost use Rattle.path.specs.Once.{riddenBefore};
+ghost use Rattle.path.specs.Once.{riddenBefore, placedBack};
 
 // Where the way back goes on behind a leg.
 pub enum Step {
@@ -93,9 +93,9 @@ fn ridden_before(d: Direction, found: usize, left: usize) -> usize
     }
 }
 
-// Writes the legs of the way back in riding order to the first bytes, and touches no other byte. Each leg is written once, as it is
-// found, where it stays.
-pub fn backtrack(
+// The walk that writes: each leg once, as it is found, where it stays. The caller names the direction, so that the compiler makes code
+// for each of the two.
+fn backtrack_by(
     words: &[u32],
     journey: &mut [u8],
     stops: u32,
@@ -111,8 +111,7 @@ pub fn backtrack(
     requires { ⌜ size ≡ sizeOf (back d stops (parentsOf stops routes (now words)) stops k s) ⌝ }
     requires { ⌜ size ≤ length (now journey) ⌝ }
     ensures { λ _. ⌜ now (journey .exit)
-        ≡ write (inOrder d (back d stops (parentsOf stops routes (now (words .entry))) stops k s))
-        ++ drop size (now (journey .entry)) ⌝ }
+        ≡ placedBack d (back d stops (parentsOf stops routes (now (words .entry))) stops k s) (now (journey .entry)) ⌝ }
 {
     let mut round = k;
     let mut stop = s;
@@ -133,5 +132,55 @@ pub fn backtrack(
         round = j;
         stop = u;
         found = with;
+    }
+}
+
+// Writes the legs of the way back in riding order to the first bytes, and touches no other byte.
+pub fn backtrack(
+    words: &[u32],
+    journey: &mut [u8],
+    stops: u32,
+    routes: u32,
+    d: Direction,
+    k: u32,
+    s: u32,
+    size: usize,
+)
+    requires { ⌜ Words stops routes (now words) ⌝ }
+    requires { ⌜ Traced d stops (parentsOf stops routes (now words)) k s ⌝ }
+    requires { ⌜ k < MOST-ROUNDS ⌝ }
+    requires { ⌜ size ≡ sizeOf (back d stops (parentsOf stops routes (now words)) stops k s) ⌝ }
+    requires { ⌜ size ≤ length (now journey) ⌝ }
+    ensures { λ _. ⌜ now (journey .exit)
+        ≡ write (inOrder d (back d stops (parentsOf stops routes (now (words .entry))) stops k s))
+        ++ drop size (now (journey .entry)) ⌝ }
+{
+    match d {
+        Direction::Departure => {
+            backtrack_by(
+                words,
+                journey,
+                stops,
+                routes,
+                Direction::Departure,
+                k,
+                s,
+                size,
+            );
+            return;
+        }
+        Direction::Arrival => {
+            backtrack_by(
+                words,
+                journey,
+                stops,
+                routes,
+                Direction::Arrival,
+                k,
+                s,
+                size,
+            );
+            return;
+        }
     }
 }
