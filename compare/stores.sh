@@ -32,7 +32,7 @@ told() {
         cat "$out/said"; exit 1; }
 }
 told proved -Wno-override-module -x ir ../target/native/kiosk_c.bc
-told wrong -x c -isystem "$(cc -print-file-name=include)" stores_wrong.c
+told wrong -x c -ffreestanding -nostdinc -isystem "$(cc -print-file-name=include)" stores_wrong.c
 
 cc -O2 -o "$out/stores" stores.c nasty.c city.c dice.c network.c lines.c face.c ../plain/search.c ../plain/check.c "$out/proved.o" "$out/wrong.o"
 # asked SOLVER HOW_OFTEN: its stores are wrong so often, and no caller sees a difference

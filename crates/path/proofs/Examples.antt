@@ -33,8 +33,13 @@ unfolding first second third placesOf sizeOf legSize
 arrival-places = refl
 
 -- a buffer of 61 bytes, all of them 7: the journey's 59, and two 7 behind it
-pub both-placed : placedBack Departure (third ∷ second ∷ first ∷ []) (replicate 61 7) ∷ placedBack Arrival (first ∷ second ∷ third ∷ []) (replicate 61 7) ∷ []
-    ≡ (write (first ∷ second ∷ third ∷ []) ++ 7 ∷ 7 ∷ []) ∷ (write (first ∷ second ∷ third ∷ []) ++ 7 ∷ 7 ∷ []) ∷ []
+pub both-placed :
+    placedBack Departure (third ∷ second ∷ first ∷ []) (replicate 61 7)
+    ∷ placedBack Arrival (first ∷ second ∷ third ∷ []) (replicate 61 7)
+    ∷ []
+    ≡ (write (first ∷ second ∷ third ∷ []) ++ 7 ∷ 7 ∷ [])
+    ∷ (write (first ∷ second ∷ third ∷ []) ++ 7 ∷ 7 ∷ [])
+    ∷ []
 unfolding first second third placedBack placesOf putAll sizeOf legSize withBytes write writeLeg kindByte tripField u32
 both-placed = refl
 

@@ -124,7 +124,8 @@ module _ (d : Direction) where
   within found [] room h = nil
   within found (g ∷ gs) room h =
       let n = legSize (g .kind) in
-      let l : riddenBefore d found (sizeOf gs) + length (writeLeg g) ≤ room = omega (arith, h, leg-length g, leg-in n (sizeOf gs) d found) in
+      let l : riddenBefore d found (sizeOf gs) + length (writeLeg g) ≤ room =
+      omega (arith, h, leg-length g, leg-in n (sizeOf gs) d found) in
       cons l (within (found + n) gs room (omega (arith, h, rest-in n (sizeOf gs) d found)))
 
   -- before the first leg nothing is ridden
@@ -136,7 +137,8 @@ module _ (d : Direction) where
       go Arrival = refl
 
 -- ---- what is not counted
-uncovered : (p : Put) (b : List ℕ) (i : ℕ) → InBuffer (length b) p → covers p i ≡ 0 → getD (withBytes b (p .at) (writeLeg (p .leg))) i 0 ≡ getD b i 0
+uncovered : (p : Put) (b : List ℕ) (i : ℕ) → InBuffer (length b) p → covers p i ≡ 0
+    → getD (withBytes b (p .at) (writeLeg (p .leg))) i 0 ≡ getD b i 0
 unfolding covers
 uncovered p b i h z =
     let a = p .at in
@@ -167,13 +169,15 @@ pub places-within : (d : Direction) (gs : List Leg) (room : ℕ) → sizeOf gs �
 places-within d gs room h = within d 0 gs room (omega (arith, none-before d, h))
 
 -- a count of 0 says that the byte stays as it was, whatever is put
-pub uncounted-stays : (ps : List Put) (b : List ℕ) (i : ℕ) → Each (InBuffer (length b)) ps → timesPut ps i ≡ 0 → getD (putAll ps b) i 0 ≡ getD b i 0
+pub uncounted-stays : (ps : List Put) (b : List ℕ) (i : ℕ) → Each (InBuffer (length b)) ps → timesPut ps i ≡ 0
+    → getD (putAll ps b) i 0 ≡ getD b i 0
 unfolding timesPut putAll
 uncounted-stays [] b i nil z = refl
 uncounted-stays (p ∷ ps) b i (cons l h) z =
     let y = withBytes b (p .at) (writeLeg (p .leg)) in
     let long : length y ≡ length b = put-length b (p .at) (writeLeg (p .leg)) l in
-    uncounted-stays ps y i (subst (λ (room : ℕ). Each (InBuffer room) ps) (sym long) h) (omega (arith, z)) ∙ uncovered p b i l (omega (arith, z))
+    uncounted-stays ps y i (subst (λ (room : ℕ). Each (InBuffer room) ps) (sym long) h) (omega (arith, z))
+    ∙ uncovered p b i l (omega (arith, z))
 
 -- "For a departure query the legs come out last first": each ends where the leg found before it begins, and the first that is found ends
 -- the journey

@@ -1,4 +1,4 @@
--- The legs in riding order, as bytes: they take as many as in the order in which they are found, and a leg behind all others is written last.
+-- The legs in riding order, as bytes: they take as many as in the order in which they are found; a leg behind all others comes last.
 -- Assumes nothing.
 use mathlib.Core.Path.{_≡_, refl, sym, _∙_}
 use mathlib.Core.List.{List, [], _∷_, _++_, append-assoc, append-nil, reverse}

@@ -45,9 +45,9 @@ unfolding placedBack
 writing-none o t l e h = record { counted = counted-none o t l; whole = e; room = h; same = refl; rest = refl }
 
 -- a leg's place lies within the journey
-within : (d : Direction) (found left size n : ℕ) → found + n + left ≡ size → riddenBefore d found left + n ≤ size
-within Departure found left size n h = omega arith
-within Arrival found left size n h = omega arith
+leg-within : (d : Direction) (found left size n : ℕ) → found + n + left ≡ size → riddenBefore d found left + n ≤ size
+leg-within Departure found left size n h = omega arith
+leg-within Arrival found left size n h = omega arith
 
 module _ {d : Direction} {stops : ℕ} {w : List (Option Leg)} {k₀ s₀ size : ℕ} {b₀ : List ℕ} {k s found : ℕ} {b : List ℕ}
     (h : Writing d stops w k₀ s₀ size b₀ k s found b)
@@ -64,7 +64,7 @@ module _ {d : Direction} {stops : ℕ} {w : List (Option Leg)} {k₀ s₀ size :
     leg-fits =
         let n = legSize (g .kind) in
         let left = size - (found + a) in
-        omega (arith, e, h .same, h .room, within d found left size n (omega (arith, v, with-within)))
+        omega (arith, e, h .same, h .room, leg-within d found left size n (omega (arith, v, with-within)))
 
     module _ {y : List ℕ} (x : y ≡ withBytes b at (writeLeg g)) where
       -- the leg is put to its place, and gs are left

@@ -1,4 +1,4 @@
--- The definitions that the contracts of `path` cite, and what its writing is proved by.
+-- The definitions that the contracts of `path` cite, and those that its promises are stated with.
 pub mod Step
 pub mod Traced
 pub mod Once

@@ -1,4 +1,5 @@
--- "Write each leg once. For a departure query the legs come out last first .. Count first, then put every leg at its final place." (document 02)
+-- Where each leg of a journey is put, and how often a byte is: "Write each leg once. For a departure query the legs come out last first ..
+-- Count first, then put every leg at its final place." (document 02)
 -- Legs gs stand here as a search finds them: a departure search the last leg first, an arrival search the first (`inOrder` of `model`).
 use Prim.Native.Nat.{ℕ, _+_, _≤_}
 use mathlib.Core.Bool.{cond, _&&_}

@@ -1,5 +1,6 @@
 // The way back: from the chosen stop and round the parents are followed to the start. It is walked
-// twice, once for the bytes that its legs take and once to write them, and nothing is kept between.
+// twice, once for the bytes that its legs take and once to write them, and nothing is kept between:
+// "Count first, then put every leg at its final place." (document 02)
 use allocator::Parent;
 use model::Direction;
 use model::Leg;

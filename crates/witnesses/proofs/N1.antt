@@ -75,7 +75,9 @@ module _ {before : Lent} {r : Answer} {after : Lent} (h : Solved N from-0-at-50 
   pub N1-read : read (take 59 (after .journey)) ≡ legs N1-legs
   N1-read = reads-back N from-0-at-50 before h N1-answer ∙ ap legs N1-searched
 
-  N1-found-places : placesOf ((taskOf (netOf N) from-0-at-50) .direction) 0 (trace (netOf N) (taskOf (netOf N) from-0-at-50) (searched (netOf N) from-0-at-50))
+  N1-found-places :
+      placesOf ((taskOf (netOf N) from-0-at-50) .direction) 0
+      (trace (netOf N) (taskOf (netOf N) from-0-at-50) (searched (netOf N) from-0-at-50))
       ≡ N1-places
   N1-found-places = rw (N1-found, N1-toward) departure-places
 
