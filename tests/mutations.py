@@ -285,7 +285,7 @@ MUTATIONS = [
     ("a part that changes a type", part_added("src/lib.rt", "pub struct Time(pub u32);", "pub struct Time(pub u64);"), False, EDITS, "it changes more than"),
     ("a third file of edits", lambda: write("crates/marks/must-fail/third.edit", read("crates/marks/must-fail/skips_a_word.edit")), False, TIMED, "marks has 3 files of edits"),
     ("a crate that takes too long", lambda: write(TIMES, re.sub(r"^\| marks \| \d+ ", "| marks | 99 ", read(TIMES), flags=re.M)), False, TIMED, "marks takes 99 seconds"),
-    ("a machine that is twice as fast", lambda: sub(TIMES, "which takes 1.00 times as long", "which takes 0.50 times as long"), False, TIMED, "and may take"),
+    ("a machine that is twice as fast", lambda: write(TIMES, re.sub(r"which takes [\d.]+ times as long", "which takes 0.50 times as long", read(TIMES))), False, TIMED, "and may take"),
     ("a page that does not tell its machine", lambda: sub(TIMES, "times as long as that of the", "times as long as that in the"), False, TIMED, "it does not say how long its machine takes"),
     ("more minutes than the gate may take", lambda: write(TIMES, re.sub(r"may take \*\*\d+", "may take **9", read(TIMES))), False, TIMED, "and may take 9"),
     ("code changed after the letter was filled in", lambda: sub(LIB, "\n}\n", "\n}\n\n"), True, SIGNED, "the sum of the text is not this tree's"),
