@@ -3,9 +3,10 @@
    stores SOLVER CASES COUNT SEED    the queries of CASES, those of COUNT small nasty networks, some in a city at the limits, in both
                                      modes, and the longest journey
 
-   SOLVER is `proved`, or one of stores_wrong.c. Each is compiled so that every store that it makes is told here before it is made (stores.sh).
-   A query is asked with room to spare, with exactly the room that its journey takes, and with one byte less. On 0 each byte of the journey must be stored
-   once and no other byte of the buffer, the legs one after the other as they are found; on any other number nothing. */
+   SOLVER is `checked` or `checking`, the two faces of the proved search, or one of stores_wrong.c. Each is compiled so that every store that it makes is told
+   here before it is made (stores.sh). A query is asked with room to spare, with exactly the room that its journey takes, and with one byte less; with a
+   workspace that is too long, and in tables that are refused. On 0 each byte of the journey must be stored once and no other byte of the buffer, the legs
+   one after the other as they are found; on any other number nothing. */
 #include <stdio.h>
 #include <stdlib.h>
 #include <string.h>
@@ -45,7 +46,7 @@ void told_memmove(void *p, const void *from, uint64_t n, _Bool v) { (void)v, saw
 static lent with, beside;               /* the solver's slices, and those of the proved search, which nobody watches */
 
 static void lend(lent *l, const flat *t, uint8_t *journey) {
-    static const size_t most[JOURNEY] = { 94 * MOST_STOPS + MOST_ROUTES, 144, 2 * MOST_STOPS };
+    static const size_t most[JOURNEY] = { 94 * MOST_STOPS + MOST_ROUTES, 144, 2 * MOST_STOPS + 1 };
     for (int i = 0; i < JOURNEY; i++) if (!l->at[i]) l->at[i] = malloc(slice_width[i] * most[i]);
     if (!l->at[ANSWER]) l->at[ANSWER] = malloc(slice_width[ANSWER] * 5);
     right_lengths(t->word, l->len);
@@ -80,7 +81,7 @@ static void call(solver *f, const flat *t, const query *q, size_t room, uint32_t
     watched_len = length;
     ask(f, t->word, t->len, &with, q);
     watched_len = 0;                    /* from here on nobody watches */
-    ask(kiosk_solve_checked, t->word, t->len, &beside, q);
+    ask(kiosk_solve, t->word, t->len, &beside, q);
     memcpy(answer, answer_of(&with), 5 * sizeof *answer);
     size_t z = answer[0] == 0 ? answer[4] : 0;
     int wrong = 0;
@@ -91,14 +92,25 @@ static void call(solver *f, const flat *t, const query *q, size_t room, uint32_t
     sum.long_ += answer[0] == 12, sum.none += answer[0] != 0 && answer[0] != 12;
 }
 
-static void ask_thrice(solver *f, const flat *t, const query *q, size_t room) {
+static void must_be(uint32_t number, const uint32_t *answer) {
+    if (answer[0] != number) printf("the answer is %u, and must be %u\n", answer[0], number), exit(1);
+}
+
+static void ask_all(solver *f, const flat *t, const query *q, size_t room) {
     uint32_t answer[5], again[5];
     lend(&with, t, watched + BESIDE), lend(&beside, t, journey_of(&beside));
     call(f, t, q, room, answer);
-    if (answer[0] != 0) return;
-    call(f, t, q, answer[4], again);
-    call(f, t, q, answer[4] - 1, again);
-    if (again[0] != 12) printf("a buffer that is one byte too short is not refused\n"), exit(1);
+    if (answer[0] == 0) {
+        call(f, t, q, answer[4], again), must_be(0, again);
+        call(f, t, q, answer[4] - 1, again), must_be(12, again);
+    }
+    with.len[PLACES]++, beside.len[PLACES]++;
+    call(f, t, q, room, again), must_be(6, again);
+    with.len[PLACES]--, beside.len[PLACES]--;
+    if (f == kiosk_solve_checked) return;       /* it is to be asked in checked tables only */
+    t->word[0]++;                       /* another layout */
+    call(f, t, q, room, again), must_be(1, again);
+    t->word[0]--;
 }
 
 int main(int argc, char **argv) {
@@ -114,16 +126,16 @@ int main(int argc, char **argv) {
     query q;
     while (fgets(text, sizeof text, cases)) {
         if (strncmp(text, "net", 3) == 0) read_network(text, &t);
-        if (read_query(text, &q)) for (q.mode = 0; q.mode < 2; q.mode++) ask_thrice(f, &t, &q, 4096);
+        if (read_query(text, &q)) for (q.mode = 0; q.mode < 2; q.mode++) ask_all(f, &t, &q, 4096);
     }
     for (unsigned long i = 0; i < count; i++) {
         make_nasty(&n, seed, i, 1), flatten(&n, &t);
-        for (int k = 0; k < 12; k++) q = nasty_query(&n, &t), ask_thrice(f, &t, &q, 4096);
+        for (int k = 0; k < 12; k++) q = nasty_query(&n, &t), ask_all(f, &t, &q, 4096);
     }
     make_city(&n, limit_city, seed), flatten(&n, &t);
-    for (int k = 0; k < 40; k++) q = city_query(&n, k % 2, k / 2 % 2), ask_thrice(f, &t, &q, KIOSK_MOST_JOURNEY);
+    for (int k = 0; k < 40; k++) q = city_query(&n, k % 2, k / 2 % 2), ask_all(f, &t, &q, KIOSK_MOST_JOURNEY);
     make_longest(&n), flatten(&n, &t);
-    ask_thrice(f, &t, &longest_query, KIOSK_MOST_JOURNEY);
+    ask_all(f, &t, &longest_query, KIOSK_MOST_JOURNEY);
     printf("%s: %lu calls, %lu journeys (%lu of departure queries) of %lu bytes, %lu times 12, %lu other refusals; a store is wrong in %lu; "
            "a caller sees a difference in %lu\n", argv[1], sum.asked, sum.found, sum.departures, sum.bytes, sum.long_, sum.none, sum.seen, sum.differ);
     return sum.found == 0 || sum.long_ == 0 || sum.none == 0;

@@ -44,6 +44,7 @@ asked() {
     cat "$out/$1.out"
     grep -q "; a store is wrong in $2; a caller sees a difference in 0\$" "$out/$1.out" || { echo "stores.sh: that is not as it must be of '$1'"; exit 1; }
 }
-asked proved 0
+asked checked 0
+asked checking 0
 asked right 0
 for wrong in turned moved again early ridden; do asked $wrong '[1-9][0-9]*'; done

@@ -1,5 +1,6 @@
-/* Writers of a journey in C, for stores.c: one that is right, and wrong ones for it to notice. Each answers as the proved search does, number 12 included, and leaves the same bytes: only who counts
-   the stores sees which are wrong. The journey is the proved search's, taken from a buffer of its own. */
+/* Writers of a journey in C, for stores.c: one that is right, and wrong ones for it to notice. Each answers as the proved search does, number 12
+   included, and leaves the same bytes: only who counts the stores sees which are wrong. The journey is the proved search's, taken from a buffer of
+   its own. */
 #include "stores_wrong.h"
 
 enum { MOST_LEGS = 4096 };
@@ -84,8 +85,8 @@ static uint32_t wrong_solve(const uint32_t *tables, size_t tables_len, uint32_t 
                             uint32_t *places, size_t places_len, uint8_t *journey, size_t journey_len, uint32_t from_kind, uint32_t from,
                             uint32_t to_kind, uint32_t to, uint32_t when, uint32_t moment, uint32_t walks, uint32_t mode, uint32_t *answer,
                             size_t answer_len) {
-    uint32_t number = kiosk_solve_checked(tables, tables_len, words, words_len, marks, marks_len, places, places_len, found, sizeof found, from_kind, from,
-                                          to_kind, to, when, moment, walks, mode, answer, answer_len);
+    uint32_t number = kiosk_solve(tables, tables_len, words, words_len, marks, marks_len, places, places_len, found, sizeof found, from_kind, from,
+                                  to_kind, to, when, moment, walks, mode, answer, answer_len);
     if (number != 0) return number;
     size_t len = answer[4];
     measure(len);
@@ -100,7 +101,8 @@ static const struct { const char *name; writer *writes; } writers[] = {
 };
 
 solver *solver_named(const char *name) {
-    if (same(name, "proved")) return kiosk_solve_checked;
+    if (same(name, "checked")) return kiosk_solve_checked;
+    if (same(name, "checking")) return kiosk_solve;
     for (size_t i = 0; i < sizeof writers / sizeof *writers; i++) if (same(name, writers[i].name)) { chosen = writers[i].writes; return wrong_solve; }
     return NULL;
 }

@@ -1,4 +1,4 @@
-/* Searches whose stores are counted: the proved one, and wrong ones that a caller cannot tell from it. */
+/* Searches whose stores are counted: the proved one by its two faces, and writers in C that a caller cannot tell from it. */
 #ifndef COMPARE_STORES_WRONG_H
 #define COMPARE_STORES_WRONG_H
 
