@@ -14,6 +14,7 @@ each_perm {P = P} (Permᴰ.swap e f) (cons p (cons q h)) = cons (subst P (sym e)
 each_perm (Permᴰ.trans w v) h = each_perm w (each_perm v h)
 
 pub each_mem : {A : Type 0} {P : A → Type 0} {xs : List A} → Each P xs → {x : A} → Memᴰ x xs → P x
+each_mem {A = A} {P = P} nil x6 = elim x6 [ ]
 each_mem {P = P} (cons p h) (Memᴰ.head e) = subst P (sym e) p
 each_mem (cons p h) (Memᴰ.tail m) = each_mem h m
 

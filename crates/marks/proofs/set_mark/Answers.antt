@@ -9,34 +9,14 @@ use lib.ListN.{get_or, set}
 use lib.Bits.{bit_or}
 use borrow.Author.Rules.{rules}
 use Rattle.marks.specs.Marks.{with_mark}
-use Rattle.marks.proofs.set_mark.Statement.{statement}
-use Rattle.marks.proofs.set_mark.Tie as tie
-
-shl-marks : tie.Need-overflow-shl-marks
-shl-marks c = search rules
-
-mul-marks : tie.Need-overflow-mul-marks
-mul-marks c = search rules
-
-slice-read-marks : tie.Need-slice-read-marks
-slice-read-marks c = search rules
-
-slice-write-marks : tie.Need-slice-write-marks
-slice-write-marks c = search rules
-
-same_length : tie.Need-same-length
-same_length c = search rules
+use Rattle.marks.proofs.set_mark.Goals as goal
 
 one_shifted : (k : ℕ) → k < 64 → 1 * 2 ^ k % 2 ^ 64 ≡ 2 ^ k
 one_shifted k h = ap (λ (x : ℕ). x % 2 ^ 64) (one-mul (2 ^ k)) ∙ mod-eq_of_lt (pow-lt h)
 
-returns : tie.Need-returns
+pub returns : goal.returns
 unfolding with_mark
 returns c =
-    let s = c.before.args.s in
-    let l = c.before.args.marks.now in
+    let s = c.args.s in
+    let l = c.args.marks.now in
     ap (λ (x : ℕ). set l (s / 64) (bit_or (get_or l (s / 64) 0) x)) (one_shifted (s % 64) (mod-lt s (lit< tt)))
-
-pub set-mark-spec : {M : Type 1} → statement M
-set-mark-spec =
-    tie.close (tie.spec shl-marks mul-marks slice-read-marks slice-write-marks same_length returns)
