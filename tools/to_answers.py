@@ -75,10 +75,13 @@ class Function:
                 self.steps[norm(place[2][0])] = place[2][1]
         self.left = []
 
-    def goal(self, old):
+    def goal(self, old, called):
         """Today's name of a goal."""
-        old = norm(old)
-        return self.needs.get(old) or self.needs.get(re.sub(r"^overflow_", "", old))
+        today = {norm(b): b for b in self.needs.values()}
+        for name in (norm(old), re.sub(r"^overflow_", "", norm(old)), norm(called)):
+            if name in self.needs:
+                return self.needs[name]
+        return today.get(norm(old))
 
     def body(self, text):
         text = re.sub(r"\bκs\b ?", "", text) if re.match(r"^\S+ (?:\w+ )*c κs", text) else text
@@ -127,7 +130,7 @@ class Function:
             m = ls and HEAD.match(ls[0])
             if m and " : tie.Need-" in ls[0]:
                 old = re.search(r"tie\.Need-(\S+)", ls[0])[1]
-                new = self.goal(old)
+                new = self.goal(old, m[1])
                 if new:
                     renamed[m[1]] = new
         for said, ls in blocks:
@@ -138,7 +141,7 @@ class Function:
                 invariants.append(self.invariant(said, ls))
             elif m and "tie.Need-" in ls[0]:
                 old = re.search(r"tie\.Need-(\S+)", ls[0])[1]
-                new = self.goal(old)
+                new = self.goal(old, m[1])
                 if new is None:
                     text = " ".join(ls[1:])
                     if not re.search(r"= *(search (rules|needs)|omega arith|tt|refl)$", text):

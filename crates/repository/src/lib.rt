@@ -1,5 +1,7 @@
 // Readers of the flat tables. Only this crate knows where a word stands; the readers say what it is in the network
 // that the words hold.
+#![tactic(auto)]
+
 pub mod limits; // limits.rt: the limits in numbers
 pub mod sections; // sections.rt: the layout in numbers
 pub mod words; // words.rt: words, entries and rows by section
