@@ -29,14 +29,14 @@ use shared::Time;
 const MAX: u32 = shared::MAX;
 
 // The leg by which a stop was reached, if it was.
-#[derive(Drop)]
+#[derive(Clone, Copy)]
 pub enum Parent {
     Leg(Leg),
     Nothing,
 }
 
 // What a proposal offers: the stop is reached at the moment by the leg.
-#[derive(Drop)]
+#[derive(Clone, Copy)]
 pub struct Offer {
     pub stop: u32,
     pub moment: Time,

@@ -4,7 +4,7 @@ ghost use Rattle.base.specs.All.{all};
 ghost use Rattle.arguments.specs.Digits.{is_digit, digit_at, tens, fitting, number_in};
 ghost use Rattle.arguments.specs.Word.{begins_with, same, after_of};
 
-#[derive(Drop)]
+#[derive(Clone, Copy)]
 pub enum Number {
     Value(u32),
     Nothing,

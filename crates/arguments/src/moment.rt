@@ -8,7 +8,7 @@ use super::bytes;
 use super::bytes::Number;
 
 // A moment, or why there is none.
-#[derive(Drop)]
+#[derive(Clone, Copy)]
 pub enum Moment {
     At(u32),
     NoForm,
@@ -114,7 +114,7 @@ pub fn moved(t: u32, midnight: u32) -> Moment
 }
 
 // What a clock shows, and how many days before the day asked.
-#[derive(Drop)]
+#[derive(Clone, Copy)]
 pub struct Clock {
     pub days: u32,
     pub hours: u32,

@@ -7,7 +7,7 @@ use super::bytes;
 use super::bytes::Number;
 
 // What is said so far.
-#[derive(Drop)]
+#[derive(Clone, Copy)]
 pub struct Options {
     // 0 unsaid, 1 yes, 2 no
     pub walks: u32,
@@ -23,7 +23,7 @@ pub struct Options {
 }
 
 // The option that an argument is, or of which option it is a bad one.
-#[derive(Drop)]
+#[derive(Clone, Copy)]
 pub enum Said {
     Walks(u32),
     Mode(u32),
@@ -38,7 +38,7 @@ pub enum Said {
 }
 
 // The options, or why they are none.
-#[derive(Drop)]
+#[derive(Clone, Copy)]
 pub enum Chosen {
     Options(Options),
     Twice,

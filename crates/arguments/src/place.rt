@@ -6,7 +6,7 @@ use super::bytes;
 use super::bytes::Number;
 
 // A place, or why there is none.
-#[derive(Drop)]
+#[derive(Clone, Copy)]
 pub enum Place {
     Stop(u32),
     Area(u32),

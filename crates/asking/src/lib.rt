@@ -9,21 +9,21 @@ use raptor::Needed;
 use shared::Time;
 
 // What a program is told: the answer, or that its slices are too small for the tables.
-#[derive(Drop)]
+#[derive(Clone, Copy)]
 pub enum Told {
     Answer(Answer),
     TooLarge,
 }
 
 // A query, or nothing that is one.
-#[derive(Drop)]
+#[derive(Clone, Copy)]
 pub enum Asked {
     Query(Query),
     Nothing,
 }
 
 // A place, or nothing that is one: `s` for a stop, `a` for an area.
-#[derive(Drop)]
+#[derive(Clone, Copy)]
 enum Place {
     At(Location),
     Nowhere,
@@ -40,7 +40,7 @@ fn place_of(kind: u32, at: u32) -> Place
 }
 
 // A moment, or nothing that is one: `d` departs at it, `a` arrives by it.
-#[derive(Drop)]
+#[derive(Clone, Copy)]
 enum When {
     At(TimeConstraint),
     Never,

@@ -10,7 +10,7 @@ ghost use Rattle.check_times.specs.AtTrip.{AtTrip};
 use repository::limits;
 
 // When a trip arrives at a position, and when it departs from there.
-#[derive(Drop)]
+#[derive(Clone, Copy)]
 struct StopTime {
     arrival: u32,
     departure: u32,

@@ -7,13 +7,13 @@ use mathlib.Core.List.{List, [], ◌∷◌, ◌++◌}
 use native.Mathlib.Omega.{arith}
 use lib.ListN.{length, length-append}
 use Rattle.base.proofs.Choice.{split}
-use Rattle.csv.specs.Part.{part}
-use Rattle.csv.specs.Texts.{same_text}
-use Rattle.csv.specs.Fields.{field, fields}
-use Rattle.csv.specs.Read.{scan_of, Within}
-use Rattle.csv.specs.declared.Scanned.{Scanned}
-use Rattle.csv.specs.declared.Scanned.TheVariants.{Taken, Wrong}
-use Rattle.csv.proofs.Parts.{part_whole}
+use Rattle.csv_text.specs.Part.{part}
+use Rattle.csv_text.specs.Texts.{same_text}
+use Rattle.csv_text.specs.Fields.{field, fields}
+use Rattle.csv_text.specs.Read.{scan_of, Within}
+use Rattle.csv_text.specs.declared.Scanned.{Scanned}
+use Rattle.csv_text.specs.declared.Scanned.TheVariants.{Taken, Wrong}
+use Rattle.csv_text.proofs.Parts.{part_whole}
 use Rattle.columns.specs.declared.Column.{Column}
 use Rattle.columns.specs.declared.Column.TheVariants.{At, Absent, Twice}
 use Rattle.columns.specs.Picks.{is_named, column_from, column_of, column_in}

@@ -9,13 +9,13 @@ use native.Mathlib.Omega.{arith}
 use lib.Dec.{eqb, eqb-zero-suc, eqb-suc-zero, eqb-suc-suc}
 use borrow.Author.Tests.{eq-eqb, ne_eqb}
 use lib.ListN.{length, get_or, length-append}
-use Rattle.csv.specs.Part.{part}
-use Rattle.csv.specs.Fields.{field, fields}
-use Rattle.csv.specs.Read.{scan_of, Within}
-use Rattle.csv.specs.declared.Scanned.{Scanned}
-use Rattle.csv.specs.declared.Scanned.TheVariants.{Taken}
-use Rattle.csv.specs.declared.Scanned.TheVariants.{Wrong as WrongField}
-use Rattle.csv.proofs.Parts.{part_none}
+use Rattle.csv_text.specs.Part.{part}
+use Rattle.csv_text.specs.Fields.{field, fields}
+use Rattle.csv_text.specs.Read.{scan_of, Within}
+use Rattle.csv_text.specs.declared.Scanned.{Scanned}
+use Rattle.csv_text.specs.declared.Scanned.TheVariants.{Taken}
+use Rattle.csv_text.specs.declared.Scanned.TheVariants.{Wrong as WrongField}
+use Rattle.csv_text.proofs.Parts.{part_none}
 use Rattle.columns.specs.declared.Span.{Span}
 use Rattle.columns.specs.declared.Wanted.{Wanted}
 use Rattle.columns.specs.declared.Picked.{Picked}

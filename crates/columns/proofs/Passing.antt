@@ -6,13 +6,13 @@ use mathlib.Core.Option.{Option, none, some}
 use mathlib.Core.List.{List, [], ◌∷◌, ◌++◌, append_assoc}
 use native.Mathlib.Omega.{arith}
 use lib.ListN.{length, get_or}
-use Rattle.csv.specs.Part.{part}
-use Rattle.csv.specs.Fields.{taken, field, with_field, fields}
-use Rattle.csv.specs.Read.{scan_of, Within}
-use Rattle.csv.specs.declared.Scanned.{Scanned}
-use Rattle.csv.specs.declared.Scanned.TheVariants.{Taken, Wrong}
-use Rattle.csv.proofs.Parts.{part_step, part_none}
-use Rattle.csv.proofs.Stepping.{fields_wrong, fields_last, fields_more}
+use Rattle.csv_text.specs.Part.{part}
+use Rattle.csv_text.specs.Fields.{taken, field, with_field, fields}
+use Rattle.csv_text.specs.Read.{scan_of, Within}
+use Rattle.csv_text.specs.declared.Scanned.{Scanned}
+use Rattle.csv_text.specs.declared.Scanned.TheVariants.{Taken, Wrong}
+use Rattle.csv_text.proofs.Parts.{part_step, part_none}
+use Rattle.csv_text.proofs.Stepping.{fields_wrong, fields_last, fields_more}
 
 -- texts before those of a line
 led : List (List ℕ) → Option (List (List ℕ)) → Option (List (List ℕ))

@@ -1,22 +1,22 @@
 // The fields that are wanted of a line, and the columns of a header, in a text that is lent as bytes.
 ghost use Rattle.std.specs.Prelude.{◌≡◌, cond, ◌≤◌, ◌<◌, eqb, length};
-ghost use Rattle.csv.specs.Part.{part};
-ghost use Rattle.csv.specs.Texts.{same_text};
-ghost use Rattle.csv.specs.Fields.{fields};
+ghost use Rattle.csv_text.specs.Part.{part};
+ghost use Rattle.csv_text.specs.Texts.{same_text};
+ghost use Rattle.csv_text.specs.Fields.{fields};
 ghost use Rattle.columns.specs.Picks.{five_in, picked_in, AllSpanned, column_in};
 ghost use Rattle.columns.specs.Keeping.{span_from, kept_at, none_kept, met_at};
 
-use csv::Scanned;
+use csv_text::Scanned;
 
 // Where a text stands: from `from` up to below `to`.
-#[derive(Drop)]
+#[derive(Clone, Copy)]
 pub struct Span {
     pub from: usize,
     pub to: usize,
 }
 
 // The places of the fields that are wanted. Where a line has no field at a place, the text is empty.
-#[derive(Drop)]
+#[derive(Clone, Copy)]
 pub struct Wanted {
     pub one: usize,
     pub two: usize,
@@ -26,7 +26,7 @@ pub struct Wanted {
 }
 
 // How many fields a line has, and where the texts of the wanted ones stand.
-#[derive(Drop)]
+#[derive(Clone, Copy)]
 pub struct Picked {
     pub count: usize,
     pub one: Span,
@@ -36,14 +36,14 @@ pub struct Picked {
     pub five: Span,
 }
 
-#[derive(Drop)]
+#[derive(Clone, Copy)]
 pub enum Picking {
     Fields(Picked),
     Wrong,
 }
 
 // Where a column stands in a header.
-#[derive(Drop)]
+#[derive(Clone, Copy)]
 pub enum Column {
     At(usize),
     Absent,
@@ -105,7 +105,7 @@ pub fn pick(bytes: &[u8], a: usize, e: usize, w: Wanted) -> Picking
     let mut i = a;
     let mut p = nothing(a);
     loop {
-        let found = csv::field(bytes, i, e);
+        let found = csv_text::field(bytes, i, e);
         match found {
             Scanned::Taken {
                 from: f,
@@ -139,7 +139,7 @@ fn seen(bytes: &[u8], f: usize, t: usize, name: &[u8], found: Column, k: usize) 
     requires { (f ≤ t) × (t ≤ length bytes.now) }
     ensures { result ≡ cond (same_text (part f t bytes.now) name.now) (met_at found k) found }
 {
-    if csv::same(bytes, f, t, name, 0, name.len()) {
+    if csv_text::same(bytes, f, t, name, 0, name.len()) {
         return met(found, k);
     }
     found
@@ -155,7 +155,7 @@ pub fn find_column(bytes: &[u8], a: usize, e: usize, name: &[u8]) -> Column
     let mut k = 0;
     let mut was = Column::Absent;
     loop {
-        let found = csv::field(bytes, i, e);
+        let found = csv_text::field(bytes, i, e);
         match found {
             Scanned::Taken {
                 from: f,

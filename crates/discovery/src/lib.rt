@@ -15,7 +15,7 @@ ghost use Rattle.discovery.specs.Trips.{Along, not_before, first_not_before, tri
 use shared::{Duration, Time};
 
 // A trip of a route, by its place in the route's order, or none.
-#[derive(Drop)]
+#[derive(Clone, Copy)]
 pub enum Trip {
     At(u32),
     Nothing,

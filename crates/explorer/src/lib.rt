@@ -3,7 +3,7 @@ use model::Direction;
 use shared::Time;
 
 // A round of a search: the sizes of its tables and of its workspace, its number from 0, and what does not change while it lasts.
-#[derive(Drop)]
+#[derive(Clone, Copy)]
 pub struct Round {
     pub stops: u32,
     pub routes: u32,

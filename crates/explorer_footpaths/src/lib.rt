@@ -20,7 +20,7 @@ use model::{Direction, LegType};
 use shared::{Duration, Time};
 
 // A stop that footpaths leave, and its label, as the rides of the round left it.
-#[derive(Drop)]
+#[derive(Clone, Copy)]
 pub struct Foothold {
     pub stop: u32,
     pub label: Time,

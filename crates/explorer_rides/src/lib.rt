@@ -17,7 +17,7 @@ use shared::Time;
 
 // Who is aboard: a trip since a position of the route, with the first row of the trip's times and its place in the route's order, where
 // the next trip is looked for first. The place MAX is none. (An enum would carry bytes that hold nothing from position to position.)
-#[derive(Drop)]
+#[derive(Clone, Copy)]
 pub struct Ride {
     pub trip: u32,
     pub since: u32,
@@ -26,7 +26,7 @@ pub struct Ride {
 }
 
 // A call: a position of a route, the stop there, and the label of that stop in the round before.
-#[derive(Drop)]
+#[derive(Clone, Copy)]
 pub struct Call {
     pub route: u32,
     pub position: u32,

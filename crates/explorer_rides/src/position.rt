@@ -15,7 +15,7 @@ use model::Direction;
 use shared::Time;
 
 // What a look at a call tells: whether the trip aboard proposes the stop, and whether the label catches a trip there.
-#[derive(Drop)]
+#[derive(Clone, Copy)]
 pub struct Seen {
     pub proposes: bool,
     pub catches: bool,

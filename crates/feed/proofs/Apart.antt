@@ -8,7 +8,7 @@ use native.Mathlib.Omega.{arith}
 use lib.ListN.{get_or}
 use Rattle.base.specs.Each.{Each, nil, cons}
 use Rattle.base.proofs.Each.{each_append}
-use Rattle.csv.specs.Fields.{fields}
+use Rattle.csv_text.specs.Fields.{fields}
 use Rattle.feed.specs.declared.Room.{Room}
 use Rattle.feed.specs.declared.TimesColumns.{TimesColumns}
 use Rattle.feed.specs.declared.TransferColumns.{TransferColumns}

@@ -8,11 +8,11 @@ use mathlib.Core.List.{List, [], ◌∷◌}
 use native.Mathlib.Omega.{arith}
 use lib.ListN.{length, get_or}
 use Rattle.base.proofs.Choice.{split}
-use Rattle.csv.specs.Texts.{same_text}
+use Rattle.csv_text.specs.Texts.{same_text}
 use Rattle.columns.specs.declared.Column.{Column}
 use Rattle.columns.specs.declared.Column.TheVariants.{At, Absent, Twice}
 use Rattle.columns.specs.Picks.{is_named, column_from, column_of}
-use Rattle.csv.proofs.Texts.{same_text_lem}
+use Rattle.csv_text.proofs.Texts.{same_text_lem}
 use Rattle.feed.specs.Columns.{only_place, any_place, min_transfer_time}
 use Rattle.feed.specs.Held.{Unnamed}
 use Rattle.feed.specs.Heads.{OnlyAt, AtTwo, SpanAt, span_there, span_missing, NotOnce, lacking, doubled}

@@ -5,10 +5,10 @@ use Prim.Native.Char.{code}
 use Prim.Native.String.{String, [] as «none», ◌∷◌ as ◌before◌, ◌++◌}
 use mathlib.Core.Path.{◌≡◌, refl}
 use mathlib.Core.List.{List, [], ◌∷◌}
-use Rattle.csv.specs.There.{if_there}
-use Rattle.csv.specs.Texts.{same_text}
-use Rattle.csv.specs.Lines.{line_of, after_line, trimmed, lines_from, lines}
-use Rattle.csv.specs.Fields.{joined, plain, quoted, field, with_field, fields_from, fields}
+use Rattle.csv_text.specs.There.{if_there}
+use Rattle.csv_text.specs.Texts.{same_text}
+use Rattle.csv_text.specs.Lines.{line_of, after_line, trimmed, lines_from, lines}
+use Rattle.csv_text.specs.Fields.{joined, plain, quoted, field, with_field, fields_from, fields}
 use Rattle.numbers.specs.Decimal.{decimal_from, decimal, digits_in, digits}
 use Rattle.numbers.specs.Clock.{up_to, eight_bytes, clock, two_digits, clock_text}
 use Rattle.names.specs.Names.{place_among}

@@ -3,7 +3,7 @@
 use Prim.Native.Nat.{ℕ}
 use mathlib.Core.Path.{◌≡◌, refl, ◌∙◌}
 use mathlib.Core.List.{List, [], ◌∷◌, ◌++◌, append-nil}
-use Rattle.csv.specs.Lines.{lines}
+use Rattle.csv_text.specs.Lines.{lines}
 use Rattle.feed.specs.declared.Room.{Room}
 use Rattle.feed.specs.declared.TimesColumns.{TimesColumns}
 use Rattle.feed.specs.declared.TransferColumns.{TransferColumns}

@@ -9,8 +9,8 @@ use lib.ListN.{length, length-append}
 use borrow.Author.Tests.{ne_eqb}
 use Rattle.base.specs.Each.{Each, nil, cons}
 use Rattle.base.proofs.Each.{each_append, each_map}
-use Rattle.csv.specs.Lines.{lines}
-use Rattle.csv.specs.Fields.{taken, joined, plain, field, with_field, fields_from, fields}
+use Rattle.csv_text.specs.Lines.{lines}
+use Rattle.csv_text.specs.Fields.{taken, joined, plain, field, with_field, fields_from, fields}
 use Rattle.feed.specs.Writing.{line_with}
 use Rattle.feed.proofs.Lined.{Inner, OfLine, lines_lined}
 

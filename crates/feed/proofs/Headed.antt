@@ -5,8 +5,8 @@ use mathlib.Core.Path.{◌≡◌, refl, sym, ◌∙◌}
 use mathlib.Core.Option.{none, some}
 use mathlib.Core.List.{List}
 use lib.ListN.{length}
-use Rattle.csv.specs.There.{if_there}
-use Rattle.csv.specs.Fields.{fields}
+use Rattle.csv_text.specs.There.{if_there}
+use Rattle.csv_text.specs.Fields.{fields}
 use Rattle.columns.specs.Picks.{column_of}
 use Rattle.feed.specs.Columns.{trip_id, arrival_time, departure_time, stop_id, stop_sequence, only_place, times_columns}
 use Rattle.feed.specs.Columns.{from_stop_id, to_stop_id, transfer_type, min_transfer_time, any_place, transfer_columns}

@@ -9,10 +9,10 @@ use lib.Dec.{ltb}
 use borrow.Author.Tests.{ltb-true}
 use Rattle.base.specs.Each.{Each, nil, cons}
 use Rattle.base.proofs.Choice.{and_left, and_right}
-use Rattle.csv.specs.There.{if_there}
-use Rattle.csv.specs.Texts.{same_text}
-use Rattle.csv.specs.Lines.{lines}
-use Rattle.csv.specs.Fields.{fields}
+use Rattle.csv_text.specs.There.{if_there}
+use Rattle.csv_text.specs.Texts.{same_text}
+use Rattle.csv_text.specs.Lines.{lines}
+use Rattle.csv_text.specs.Fields.{fields}
 use Rattle.columns.specs.Picks.{is_named, column_from, column_of}
 use Rattle.feed.specs.Columns.{trip_id, arrival_time, departure_time, stop_id, stop_sequence, from_stop_id, to_stop_id, transfer_type, min_transfer_time, only_place, any_place, times_columns, transfer_columns}
 use Rattle.feed.specs.Reading.{without_mark}

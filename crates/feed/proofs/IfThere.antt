@@ -5,7 +5,7 @@ use mathlib.Core.Bool.{Bool, true, false, cond}
 use mathlib.Core.Option.{Option, none, some}
 use Prim.Native.Nat.{ℕ}
 use native.Mathlib.Omega.{arith}
-use Rattle.csv.specs.There.{if_there}
+use Rattle.csv_text.specs.There.{if_there}
 
 -- nothing is there and not there
 pub none_some : {A C : Type 0} {x : A} → none ≡ some x → C

@@ -10,7 +10,7 @@ use lib.Dec.{ltb, eqb}
 use lib.ListN.{length, get_or, length-append}
 use borrow.Author.Tests.{ltb-true, lt-ltb, le-leb, eq-eqb, ne_eqb}
 use Rattle.base.proofs.Choice.{and_left}
-use Rattle.csv.specs.Texts.{same_text}
+use Rattle.csv_text.specs.Texts.{same_text}
 use Rattle.feed.specs.declared.Room.{Room}
 use Rattle.feed.specs.declared.TimesColumns.{TimesColumns}
 use Rattle.feed.specs.declared.TransferColumns.{TransferColumns}

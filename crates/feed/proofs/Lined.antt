@@ -7,8 +7,8 @@ use native.Mathlib.Omega.{arith}
 use lib.ListN.{length, get_or, length-append}
 use borrow.Author.Tests.{ne_eqb}
 use Rattle.base.specs.Each.{Each, nil, cons}
-use Rattle.csv.specs.Lines.{line_of, after_line, trimmed, lines}
-use Rattle.csv.proofs.Stepping.{lines_step}
+use Rattle.csv_text.specs.Lines.{line_of, after_line, trimmed, lines}
+use Rattle.csv_text.proofs.Stepping.{lines_step}
 
 -- a byte that neither ends a line (10, 13) nor a field (34, 44), and one that may stand between fields
 abbrev pub Inner : ℕ → Type 0

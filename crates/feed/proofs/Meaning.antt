@@ -5,9 +5,9 @@ use mathlib.Core.Path.{◌≡◌, refl}
 use mathlib.Core.Option.{Option, none, some}
 use mathlib.Core.List.{List, [], ◌∷◌}
 use native.Mathlib.Omega.{arith}
-use Rattle.csv.specs.There.{if_there}
-use Rattle.csv.specs.Lines.{lines}
-use Rattle.csv.specs.Fields.{fields}
+use Rattle.csv_text.specs.There.{if_there}
+use Rattle.csv_text.specs.Lines.{lines}
+use Rattle.csv_text.specs.Fields.{fields}
 use Rattle.feed.specs.declared.Room.{Room}
 use Rattle.feed.specs.declared.TimesColumns.{TimesColumns}
 use Rattle.feed.specs.declared.TransferColumns.{TransferColumns}

@@ -10,10 +10,10 @@ use lib.ListN.{length, get_or, length-append, get_or-append}
 use lib.Seq.{get_or-append_seam}
 use borrow.Author.Tests.{ltb-true, ltb-false, eq-eqb, ne_eqb}
 use Rattle.base.proofs.Choice.{split}
-use Rattle.csv.specs.Texts.{same_text}
+use Rattle.csv_text.specs.Texts.{same_text}
 use Rattle.columns.specs.Picks.{is_named}
 use Rattle.names.specs.Names.{place_among}
-use Rattle.csv.proofs.Texts.{same_text_lem, same_refl}
+use Rattle.csv_text.proofs.Texts.{same_text_lem, same_refl}
 use Rattle.feed.specs.Feed.{known_as, named_by, named, number_by, number_of}
 use Rattle.feed.specs.Orderly.{seen_after}
 use Rattle.feed.specs.Held.{Once, Unnamed}

@@ -11,7 +11,7 @@ use lib.ListN.{length, get_or}
 use borrow.Author.Tests.{eqb-true, eqb-false, eq-eqb, ne_eqb, ltb-true, lt-ltb}
 use Rattle.base.specs.Tab.{tab}
 use Rattle.base.proofs.Choice.{split}
-use Rattle.csv.specs.Texts.{same_text}
+use Rattle.csv_text.specs.Texts.{same_text}
 use Rattle.columns.specs.Picks.{is_named}
 use Rattle.numbers.specs.Decimal.{digits}
 use Rattle.numbers.proofs.Written.{digits_same}

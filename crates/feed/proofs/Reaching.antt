@@ -4,9 +4,9 @@ use Prim.Native.Nat.{ℕ}
 use mathlib.Core.Path.{◌≡◌, refl, ap}
 use mathlib.Core.Option.{Option, none, some}
 use mathlib.Core.List.{List, [], ◌∷◌}
-use Rattle.csv.specs.There.{if_there}
-use Rattle.csv.specs.Lines.{lines}
-use Rattle.csv.specs.Fields.{fields}
+use Rattle.csv_text.specs.There.{if_there}
+use Rattle.csv_text.specs.Lines.{lines}
+use Rattle.csv_text.specs.Fields.{fields}
 use Rattle.feed.specs.declared.Room.{Room}
 use Rattle.feed.specs.declared.TimesColumns.{TimesColumns}
 use Rattle.feed.specs.declared.TransferColumns.{TransferColumns}

@@ -11,12 +11,12 @@ use lib.ListN.{length, get_or, length-append, get_or-append}
 use lib.Seq.{get_or-append_seam}
 use borrow.Author.Tests.{ltb-true, ltb-false, leb-false, eqb-true, eqb-false, lt-ltb}
 use Rattle.base.proofs.Choice.{split, and_left, and_right}
-use Rattle.csv.specs.Texts.{same_text}
-use Rattle.csv.specs.Fields.{fields}
+use Rattle.csv_text.specs.Texts.{same_text}
+use Rattle.csv_text.specs.Fields.{fields}
 use Rattle.numbers.specs.Decimal.{decimal}
 use Rattle.numbers.specs.Clock.{clock}
-use Rattle.csv.proofs.Texts.{same_text_lem}
-use Rattle.csv.proofs.Texts.{same_refl}
+use Rattle.csv_text.proofs.Texts.{same_text_lem}
+use Rattle.csv_text.proofs.Texts.{same_refl}
 use Rattle.feed.specs.declared.Room.{Room}
 use Rattle.feed.specs.declared.TimesColumns.{TimesColumns}
 use Rattle.feed.specs.declared.TransferColumns.{TransferColumns}

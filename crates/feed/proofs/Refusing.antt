@@ -11,7 +11,7 @@ use lib.ListN.{length, get_or, length-append, get_or-append}
 use lib.Seq.{get_or-append_seam}
 use borrow.Author.Tests.{ltb-true, ltb-false, leb-true, lt-ltb, le-ltb, lt-leb}
 use Rattle.base.proofs.Choice.{split}
-use Rattle.csv.specs.Fields.{fields}
+use Rattle.csv_text.specs.Fields.{fields}
 use Rattle.columns.specs.Picks.{is_named}
 use Rattle.numbers.specs.Decimal.{decimal}
 use Rattle.feed.specs.declared.Room.{Room}

@@ -5,7 +5,7 @@ use mathlib.Core.Path.{◌≡◌, refl, ap, ◌∙◌}
 use mathlib.Core.List.{List, [], ◌∷◌}
 use native.Mathlib.Omega.{arith}
 use Rattle.base.specs.Tab.{tab}
-use Rattle.csv.specs.Lines.{lines}
+use Rattle.csv_text.specs.Lines.{lines}
 use Rattle.feed.specs.declared.Room.{Room}
 use Rattle.feed.specs.Feed.{TimeRow, TransferRow, Feed, empty_feed}
 use Rattle.feed.specs.Times.{times_under, read_times}

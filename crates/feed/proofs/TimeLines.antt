@@ -6,8 +6,8 @@ use mathlib.Core.Bool.{true}
 use mathlib.Core.Option.{some}
 use mathlib.Core.List.{List, [], ◌∷◌, ◌++◌}
 use Rattle.base.specs.Each.{Each, nil, cons}
-use Rattle.csv.specs.There.{if_there}
-use Rattle.csv.specs.Lines.{lines}
+use Rattle.csv_text.specs.There.{if_there}
+use Rattle.csv_text.specs.Lines.{lines}
 use Rattle.numbers.specs.Decimal.{digits}
 use Rattle.numbers.specs.Clock.{clock, clock_text}
 use Rattle.numbers.proofs.Written.{read_digits}

@@ -8,8 +8,8 @@ use native.Mathlib.Omega.{arith}
 use lib.Dec.{eqb}
 use lib.ListN.{length, length-append}
 use Rattle.base.proofs.Choice.{split}
-use Rattle.csv.specs.Lines.{lines}
-use Rattle.csv.proofs.Stepping.{lines_none}
+use Rattle.csv_text.specs.Lines.{lines}
+use Rattle.csv_text.proofs.Stepping.{lines_none}
 use Rattle.feed.specs.declared.Room.{Room}
 use Rattle.feed.specs.declared.TimesColumns.{TimesColumns}
 use Rattle.feed.specs.Feed.{TimeRow, Feed, done, Got}

@@ -11,9 +11,9 @@ use lib.ListN.{length, length-append}
 use borrow.Author.Tests.{ltb-true, leb-true, eqb-true, le-leb, lt-ltb}
 use Rattle.base.specs.Each.{Each, nil, cons}
 use Rattle.base.proofs.Choice.{split, and_left, and_right}
-use Rattle.csv.specs.There.{if_there}
-use Rattle.csv.specs.Lines.{lines}
-use Rattle.csv.proofs.Stepping.{lines_none}
+use Rattle.csv_text.specs.There.{if_there}
+use Rattle.csv_text.specs.Lines.{lines}
+use Rattle.csv_text.proofs.Stepping.{lines_none}
 use Rattle.numbers.specs.Decimal.{decimal, digits}
 use Rattle.numbers.proofs.Written.{digits_some, read_digits}
 use Rattle.feed.specs.declared.Room.{Room}

@@ -10,7 +10,7 @@ use lib.ListN.{length, get_or}
 use borrow.Author.Tests.{eqb-false, ne_eqb}
 use Rattle.base.specs.Each.{Each, nil, cons}
 use Rattle.base.proofs.Choice.{split}
-use Rattle.csv.specs.Fields.{Scan, taken, wrong, joined, plain, quoted, field, with_field, fields_from, fields}
+use Rattle.csv_text.specs.Fields.{Scan, taken, wrong, joined, plain, quoted, field, with_field, fields_from, fields}
 use Rattle.feed.specs.Undoubled.{undoubled, Paired, no_byte, one_byte, two_quotes}
 use Rattle.feed.proofs.IfThere.{none_some, some_is}
 

@@ -9,7 +9,7 @@ use lib.Dec.{eqb}
 use lib.ListN.{length, get_or}
 use borrow.Author.Tests.{eqb-true}
 use Rattle.base.proofs.Choice.{and_left, and_right}
-use Rattle.csv.specs.Fields.{fields}
+use Rattle.csv_text.specs.Fields.{fields}
 use Rattle.numbers.specs.Decimal.{decimal}
 use Rattle.numbers.specs.Clock.{clock}
 use Rattle.feed.specs.declared.TimesColumns.{TimesColumns}

@@ -1,7 +1,7 @@
 -- "header line in any column order": what a header says, by the places where its columns stand.
 use Rattle.std.specs.Prelude.{ℕ, ◌<◌, ◌≡◌, List, [], length, get_or}
 use Rattle.std.proofs.Math.Option.{none, some}
-use Rattle.csv.specs.Fields.{fields}
+use Rattle.csv_text.specs.Fields.{fields}
 use Rattle.feed.specs.declared.TimesColumns.{TimesColumns}
 use Rattle.feed.specs.declared.TransferColumns.{TransferColumns}
 use Rattle.feed.specs.Columns.{trip_id, arrival_time, departure_time, stop_id, stop_sequence}

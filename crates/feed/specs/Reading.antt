@@ -1,6 +1,6 @@
 -- Both files: "numbers stops and trips in order of first appearance, stop_times first".
 use Rattle.std.specs.Prelude.{ℕ, cond, ◌&&◌, List, eqb, get_or, drop}
-use Rattle.csv.specs.Lines.{lines}
+use Rattle.csv_text.specs.Lines.{lines}
 use Rattle.feed.specs.declared.Room.{Room}
 use Rattle.feed.specs.Feed.{done, bad_times, bad_transfers, full, Got}
 use Rattle.feed.specs.Times.{read_times}

@@ -2,8 +2,8 @@
 -- refused for one of these reasons.
 use Rattle.std.specs.Prelude.{ℕ, suc, ◌+◌, ◌≤◌, ◌<◌, ◌≡◌, List, [], ◌∷◌, ◌++◌, length, get_or}
 use Rattle.std.proofs.Math.Option.{none, some}
-use Rattle.csv.specs.Lines.{lines}
-use Rattle.csv.specs.Fields.{fields}
+use Rattle.csv_text.specs.Lines.{lines}
+use Rattle.csv_text.specs.Fields.{fields}
 use Rattle.numbers.specs.Decimal.{decimal}
 use Rattle.numbers.specs.Clock.{clock}
 use Rattle.feed.specs.declared.Room.{Room}

@@ -1,9 +1,9 @@
 -- stop_times.txt: "Rows of a trip stand together with rising stop_sequence. A missing time .. makes a bad line."
 use Rattle.std.specs.Prelude.{ℕ, suc, ◌-◌, Bool, true, false, cond, ◌&&◌, List, [], ◌∷◌, ◌++◌, ltb, leb, eqb, length, get_or}
 use Rattle.std.proofs.Math.Option.{Option, none, some}
-use Rattle.csv.specs.There.{if_there}
-use Rattle.csv.specs.Texts.{same_text}
-use Rattle.csv.specs.Fields.{fields}
+use Rattle.csv_text.specs.There.{if_there}
+use Rattle.csv_text.specs.Texts.{same_text}
+use Rattle.csv_text.specs.Fields.{fields}
 use Rattle.columns.specs.Picks.{is_named}
 use Rattle.numbers.specs.Decimal.{decimal}
 use Rattle.numbers.specs.Clock.{clock}

@@ -1,8 +1,8 @@
 -- transfers.txt: "A missing time, in a type 2 row too, makes a bad line. Only transfer_type 2 gives a stated span."
 use Rattle.std.specs.Prelude.{ℕ, suc, cond, ◌&&◌, List, [], ◌∷◌, ◌++◌, ltb, leb, eqb, length, get_or}
 use Rattle.std.proofs.Math.Option.{Option, none, some}
-use Rattle.csv.specs.There.{if_there}
-use Rattle.csv.specs.Fields.{fields}
+use Rattle.csv_text.specs.There.{if_there}
+use Rattle.csv_text.specs.Fields.{fields}
 use Rattle.numbers.specs.Decimal.{decimal}
 use Rattle.feed.specs.declared.Room.{Room}
 use Rattle.feed.specs.declared.TransferColumns.{TransferColumns}

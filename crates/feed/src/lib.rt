@@ -3,7 +3,7 @@
 use columns::Span;
 
 // "15 for a table that is full": how many rows each table takes.
-#[derive(Drop)]
+#[derive(Clone, Copy)]
 pub struct Room {
     pub stops: u32,
     pub trips: u32,
@@ -12,7 +12,7 @@ pub struct Room {
 }
 
 // The places of what is read of stop_times.txt, and how many columns there are.
-#[derive(Drop)]
+#[derive(Clone, Copy)]
 pub struct TimesColumns {
     pub count: usize,
     pub trip: usize,
@@ -23,7 +23,7 @@ pub struct TimesColumns {
 }
 
 // The places of what is read of transfers.txt; `span` is `count` where that column is missing.
-#[derive(Drop)]
+#[derive(Clone, Copy)]
 pub struct TransferColumns {
     pub count: usize,
     pub from: usize,
@@ -33,7 +33,7 @@ pub struct TransferColumns {
 }
 
 // The values of a line of stop_times.txt; where the texts of its ids stand.
-#[derive(Drop)]
+#[derive(Clone, Copy)]
 pub struct TimeSpans {
     pub trip: Span,
     pub stop: Span,
@@ -43,7 +43,7 @@ pub struct TimeSpans {
 }
 
 // The values of a line of transfers.txt.
-#[derive(Drop)]
+#[derive(Clone, Copy)]
 pub struct TransferSpans {
     pub from: Span,
     pub to: Span,
@@ -52,7 +52,7 @@ pub struct TransferSpans {
 }
 
 // How the reading of a file ends: "14 with its line for a bad line, 15 for a table that is full".
-#[derive(Drop)]
+#[derive(Clone, Copy)]
 pub enum Ending {
     Done,
     Bad(u32),

@@ -7,7 +7,7 @@ use gtfs_read::Told;
 use gtfs_write::Written;
 
 // What was read again, held to what was written.
-#[derive(Drop)]
+#[derive(Clone, Copy)]
 enum Again {
     Same,
     NotRead,

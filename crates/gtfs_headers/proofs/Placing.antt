@@ -6,7 +6,7 @@ use mathlib.Core.Option.{Option, none, some}
 use mathlib.Core.List.{List}
 use native.Mathlib.Omega.{arith}
 use lib.ListN.{length}
-use Rattle.csv.specs.There.{if_there}
+use Rattle.csv_text.specs.There.{if_there}
 use Rattle.columns.specs.declared.Column.{Column}
 use Rattle.columns.specs.declared.Column.TheVariants.{At as Found, Absent, Twice}
 use Rattle.columns.specs.declared.Wanted.{Wanted}

@@ -1,7 +1,7 @@
 -- A header as the code answers with it.
 use Rattle.std.specs.Prelude.{ℕ}
 use Rattle.std.proofs.Math.Option.{Option, none, some}
-use Rattle.csv.specs.There.{if_there}
+use Rattle.csv_text.specs.There.{if_there}
 use Rattle.feed.specs.declared.TimesColumns.{TimesColumns}
 use Rattle.feed.specs.declared.TransferColumns.{TransferColumns}
 use Rattle.gtfs_headers.specs.declared.Place.{Place}

@@ -1,8 +1,8 @@
 // Where the lines of stop_times.txt and transfers.txt begin, and the places of their headers' columns.
 ghost use Rattle.std.specs.Prelude.{◌≡◌, ◌≤◌, length, drop};
-ghost use Rattle.csv.specs.There.{if_there};
-ghost use Rattle.csv.specs.Part.{part};
-ghost use Rattle.csv.specs.Fields.{fields};
+ghost use Rattle.csv_text.specs.There.{if_there};
+ghost use Rattle.csv_text.specs.Part.{part};
+ghost use Rattle.csv_text.specs.Fields.{fields};
 ghost use Rattle.columns.specs.Picks.{column_in};
 ghost use Rattle.feed.specs.Columns.{only_place, any_place, times_columns, transfer_columns};
 ghost use Rattle.feed.specs.Reading.{without_mark};
@@ -12,19 +12,19 @@ use columns::{Column, Picking, Wanted};
 use feed::{TimesColumns, TransferColumns};
 
 // The place of a column that is read, or none: it is missing, or stands twice.
-#[derive(Drop)]
+#[derive(Clone, Copy)]
 enum Place {
     At(usize),
     Nowhere,
 }
 
-#[derive(Drop)]
+#[derive(Clone, Copy)]
 pub enum TimesHeader {
     Columns(TimesColumns),
     Bad,
 }
 
-#[derive(Drop)]
+#[derive(Clone, Copy)]
 pub enum TransfersHeader {
     Columns(TransferColumns),
     Bad,

@@ -8,8 +8,8 @@ use mathlib.Core.List.{List}
 use lib.Dec.{ltb}
 use borrow.Author.Tests.{eq-eqb, ne_eqb, lt-ltb, le-ltb, ltb-true, ltb-false}
 use Rattle.base.proofs.Choice.{split}
-use Rattle.csv.specs.There.{if_there}
-use Rattle.csv.proofs.Parts.{part_step, part_none}
+use Rattle.csv_text.specs.There.{if_there}
+use Rattle.csv_text.proofs.Parts.{part_step, part_none}
 use Rattle.columns.specs.declared.Span.{Span}
 use Rattle.columns.specs.declared.Wanted.{Wanted}
 use Rattle.columns.specs.declared.Picked.{Picked}

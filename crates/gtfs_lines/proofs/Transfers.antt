@@ -8,10 +8,10 @@ use mathlib.Core.List.{List}
 use lib.Dec.{leb}
 use lib.ListN.{length}
 use borrow.Author.Tests.{eq-eqb, ne_eqb, le-leb, lt-leb, lt-ltb, le-ltb}
-use Rattle.csv.specs.There.{if_there}
-use Rattle.csv.specs.Part.{part}
-use Rattle.csv.specs.Fields.{fields}
-use Rattle.csv.proofs.Parts.{part_step, part_none}
+use Rattle.csv_text.specs.There.{if_there}
+use Rattle.csv_text.specs.Part.{part}
+use Rattle.csv_text.specs.Fields.{fields}
+use Rattle.csv_text.proofs.Parts.{part_step, part_none}
 use Rattle.columns.specs.declared.Span.{Span}
 use Rattle.columns.specs.declared.Wanted.{Wanted}
 use Rattle.columns.specs.declared.Picked.{Picked}

@@ -1,7 +1,7 @@
 -- A row's values: where they stand, as the code answers, and what they are, from the five texts that are picked of its line.
 use Rattle.std.specs.Prelude.{ℕ, Bool, cond, ◌&&◌, List, eqb, ltb}
 use Rattle.std.proofs.Math.Option.{Option, none, some}
-use Rattle.csv.specs.There.{if_there}
+use Rattle.csv_text.specs.There.{if_there}
 use Rattle.columns.specs.declared.Picked.{Picked}
 use Rattle.columns.specs.Picks.{Five, Spanned}
 use Rattle.numbers.specs.Decimal.{decimal}

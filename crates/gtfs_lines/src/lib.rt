@@ -1,7 +1,7 @@
 // One line of stop_times.txt or transfers.txt as values: a row's ids, by where they stand, and its numbers. Nothing is written.
 ghost use Rattle.std.specs.Prelude.{◌≡◌, ◌≤◌, length};
-ghost use Rattle.csv.specs.There.{if_there};
-ghost use Rattle.csv.specs.Part.{part};
+ghost use Rattle.csv_text.specs.There.{if_there};
+ghost use Rattle.csv_text.specs.Part.{part};
 ghost use Rattle.columns.specs.declared.Picking.TheVariants.{Fields};
 ghost use Rattle.columns.specs.Picks.{picked_in, text_at, Spanned, AllSpanned};
 ghost use Rattle.numbers.specs.Told.{told_number};
@@ -14,13 +14,13 @@ use columns::{Picked, Picking, Span, Wanted};
 use feed::{TimeSpans, TimesColumns, TransferColumns, TransferSpans};
 use numbers::Number;
 
-#[derive(Drop)]
+#[derive(Clone, Copy)]
 pub enum TimeRead {
     Values(TimeSpans),
     Bad,
 }
 
-#[derive(Drop)]
+#[derive(Clone, Copy)]
 pub enum TransferRead {
     Values(TransferSpans),
     Bad,

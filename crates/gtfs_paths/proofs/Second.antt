@@ -7,8 +7,8 @@ use mathlib.Core.List.{List, [], ◌∷◌, ◌++◌}
 use native.Mathlib.Omega.{arith}
 use lib.ListN.{length, get_or, length-append, get_or-append}
 use lib.Seq.{get_or-append_seam}
-use Rattle.csv.specs.Part.{part}
-use Rattle.csv.specs.Texts.{same_text}
+use Rattle.csv_text.specs.Part.{part}
+use Rattle.csv_text.specs.Texts.{same_text}
 use Rattle.columns.specs.declared.Span.{Span}
 use Rattle.columns.specs.Picks.{text_at}
 use Rattle.names.specs.Names.{place_among}

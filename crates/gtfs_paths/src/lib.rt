@@ -16,7 +16,7 @@ use gtfs_rows::{books, rows};
 use names::Shelf;
 
 // So many names of stops stand in the first file, so many in both, and so many rows are taken.
-#[derive(Drop)]
+#[derive(Clone, Copy)]
 pub struct PathsReached {
     pub split: u32,
     pub stops: u32,
@@ -24,14 +24,14 @@ pub struct PathsReached {
 }
 
 // The numbers of a row's two stops, or that there is no room.
-#[derive(Drop)]
+#[derive(Clone, Copy)]
 pub enum PathPlan {
     Enter { from: u32, to: u32 },
     Full,
 }
 
 // A row that is taken: the numbers of its stops, and the values of its line.
-#[derive(Drop)]
+#[derive(Clone, Copy)]
 pub struct PathEntry {
     pub from: u32,
     pub to: u32,
@@ -39,7 +39,7 @@ pub struct PathEntry {
 }
 
 // How far a row that was taken brought the reading, or that there was no room.
-#[derive(Drop)]
+#[derive(Clone, Copy)]
 pub enum PathTook {
     Kept(PathsReached),
     Full,
@@ -67,7 +67,7 @@ fn second_number(
     if from < shelf.count {
         return to;
     }
-    if csv::same(second, far.from, far.to, second, near.from, near.to) {
+    if csv_text::same(second, far.from, far.to, second, near.from, near.to) {
         return from;
     }
     if to < shelf.count {

@@ -5,7 +5,7 @@ use mathlib.Core.Path.{◌≡◌, refl, sym, ap, ◌∙◌}
 use mathlib.Core.List.{List, [], ◌∷◌, ◌++◌}
 use native.Mathlib.Omega.{arith}
 use lib.ListN.{length}
-use Rattle.csv.specs.Lines.{lines_from, lines}
+use Rattle.csv_text.specs.Lines.{lines_from, lines}
 use Rattle.feed.specs.declared.Room.{Room}
 use Rattle.feed.specs.Feed.{Feed, End, done, bad_times, bad_transfers, full, Got}
 use Rattle.feed.specs.Times.{read_times}

@@ -8,7 +8,7 @@ use native.Mathlib.Omega.{arith}
 use lib.ListN.{length, get_or}
 use Rattle.base.specs.Tab.{tab}
 use Rattle.base.specs.Put.{with_bytes}
-use Rattle.csv.specs.Part.{part}
+use Rattle.csv_text.specs.Part.{part}
 use Rattle.names.specs.declared.Shelf.{Shelf}
 use Rattle.names.specs.Book.{hash_from, slot_of, last_in, start_at, end_at, next_at, file_of, name_at, names_in, Book}
 use Rattle.names.specs.Booked.{Booked}

@@ -4,7 +4,7 @@ use Rattle.model.specs.Limits.{MOST_STOPS, MOST_TRIPS, MOST_STOP_TIMES, MOST_TRA
 use Rattle.names.specs.declared.Shelf.{Shelf}
 use Rattle.names.specs.Book.{start_at, end_at, names_in}
 use Rattle.names.specs.Booked.{SameBook}
-use Rattle.csv.specs.Lines.{lines}
+use Rattle.csv_text.specs.Lines.{lines}
 use Rattle.feed.specs.declared.Room.{Room}
 use Rattle.feed.specs.Feed.{Feed}
 use Rattle.feed.specs.Reading.{without_mark}

@@ -9,8 +9,8 @@ use native.Mathlib.Omega.{arith}
 use lib.Dec.{ltb, leb}
 use lib.ListN.{length, length-append}
 use Rattle.base.proofs.Choice.{split}
-use Rattle.csv.specs.There.{if_there}
-use Rattle.csv.specs.Fields.{fields}
+use Rattle.csv_text.specs.There.{if_there}
+use Rattle.csv_text.specs.Fields.{fields}
 use Rattle.columns.specs.Picks.{is_named}
 use Rattle.feed.specs.declared.Room.{Room}
 use Rattle.feed.specs.declared.TimesColumns.{TimesColumns}

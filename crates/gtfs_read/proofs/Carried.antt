@@ -8,9 +8,9 @@ use mathlib.Core.List.{List, [], ◌∷◌}
 use lib.Dec.{ltb, leb}
 use lib.ListN.{length}
 use Rattle.base.proofs.Choice.{split}
-use Rattle.csv.specs.There.{if_there}
-use Rattle.csv.specs.Fields.{fields}
-use Rattle.csv.specs.Lines.{lines}
+use Rattle.csv_text.specs.There.{if_there}
+use Rattle.csv_text.specs.Fields.{fields}
+use Rattle.csv_text.specs.Lines.{lines}
 use Rattle.names.specs.Booked.{Booked}
 use Rattle.feed.specs.declared.Room.{Room}
 use Rattle.feed.specs.declared.TransferColumns.{TransferColumns}

@@ -6,7 +6,7 @@ use mathlib.Core.List.{List}
 use native.Mathlib.Omega.{arith}
 use lib.ListN.{length}
 use Rattle.base.specs.Put.{with_bytes}
-use Rattle.csv.specs.Lines.{lines}
+use Rattle.csv_text.specs.Lines.{lines}
 use Rattle.names.specs.Book.{names_in}
 use Rattle.names.specs.Booked.{Booked}
 use Rattle.names.proofs.Booking.{booked_turn}

@@ -1,7 +1,7 @@
 -- What `read` answers and leaves: "every table, query and buffer is answered".
 use Rattle.std.specs.Prelude.{ℕ, ◌/◌, ◌≡◌, Bool, true, false, cond, ◌||◌, List, leb, ltb, length}
 use Rattle.base.specs.Put.{with_bytes}
-use Rattle.csv.specs.Lines.{lines}
+use Rattle.csv_text.specs.Lines.{lines}
 use Rattle.names.specs.declared.Shelf.{Shelf}
 use Rattle.names.specs.Booked.{Booked}
 use Rattle.model.specs.Limits.{MOST_STOPS, MOST_TRIPS, MOST_STOP_TIMES, MOST_TRANSFERS}

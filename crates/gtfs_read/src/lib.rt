@@ -11,7 +11,7 @@ use repository::limits;
 
 // The answer: the number, for 14 the line and the file (1 stop_times.txt, 2 transfers.txt), and how much was taken. Stops below `split`
 // are named in the first file.
-#[derive(Drop)]
+#[derive(Clone, Copy)]
 pub struct Told {
     pub number: u32,
     pub line: u32,

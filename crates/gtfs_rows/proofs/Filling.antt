@@ -7,8 +7,8 @@ use native.Mathlib.Omega.{arith}
 use lib.ListN.{length, length-append}
 use Rattle.base.specs.Put.{with_bytes}
 use Rattle.base.proofs.Put.{put_then, put_length}
-use Rattle.csv.specs.declared.TextLine.{TextLine}
-use Rattle.csv.specs.Read.{LineAt}
+use Rattle.csv_text.specs.declared.TextLine.{TextLine}
+use Rattle.csv_text.specs.Read.{LineAt}
 
 -- n rows, of the words `put`, stand in x, which was x₀ and has room for `most`; the next line of b begins at i
 pub record Filling (b : List ℕ) (most : ℕ) (x₀ : List ℕ) (i n : ℕ) (put x : List ℕ) : Type 0 where

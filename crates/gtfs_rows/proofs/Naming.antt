@@ -8,8 +8,8 @@ use native.Mathlib.Omega.{arith}
 use lib.ListN.{length, get_or}
 use borrow.Author.Tests.{eq-eqb, ne_eqb, lt-ltb}
 use Rattle.base.proofs.Choice.{split}
-use Rattle.csv.specs.Part.{part}
-use Rattle.csv.specs.Texts.{same_text}
+use Rattle.csv_text.specs.Part.{part}
+use Rattle.csv_text.specs.Texts.{same_text}
 use Rattle.columns.specs.declared.Span.{Span}
 use Rattle.columns.specs.Picks.{text_at, is_named}
 use Rattle.names.specs.declared.Shelf.{Shelf}

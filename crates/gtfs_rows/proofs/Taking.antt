@@ -9,7 +9,7 @@ use lib.Dec.{ltb, leb}
 use lib.ListN.{length, get_or, length-append}
 use borrow.Author.Tests.{ltb-true, ltb-false, lt-ltb, le-ltb, le-leb, lt-leb}
 use Rattle.base.proofs.Choice.{split, and_left}
-use Rattle.csv.specs.Texts.{same_text}
+use Rattle.csv_text.specs.Texts.{same_text}
 use Rattle.columns.specs.Picks.{is_named, text_at}
 use Rattle.feed.specs.declared.Room.{Room}
 use Rattle.feed.specs.declared.TimeSpans.{TimeSpans}

@@ -15,7 +15,7 @@ use feed::{Room, TimeSpans};
 use names::{Found, Shelf};
 
 // Whose row a line is: of the trip of the row before, of a new one, or of one that stood before another.
-#[derive(Drop)]
+#[derive(Clone, Copy)]
 pub enum Trip {
     Last,
     New,
@@ -23,7 +23,7 @@ pub enum Trip {
 }
 
 // So many stops, trips and rows are taken, and the sequence of the last row.
-#[derive(Drop)]
+#[derive(Clone, Copy)]
 pub struct Reached {
     pub stops: u32,
     pub trips: u32,
@@ -32,7 +32,7 @@ pub struct Reached {
 }
 
 // The numbers of a row's trip and stop, or why it is not taken.
-#[derive(Drop)]
+#[derive(Clone, Copy)]
 pub enum Plan {
     Enter { trip: u32, stop: u32 },
     Bad,
@@ -40,7 +40,7 @@ pub enum Plan {
 }
 
 // What became of a row.
-#[derive(Drop)]
+#[derive(Clone, Copy)]
 pub enum Took {
     Kept(Reached),
     Bad,
@@ -48,7 +48,7 @@ pub enum Took {
 }
 
 // A row that is taken: the numbers of its trip and its stop, and the values of its line.
-#[derive(Drop)]
+#[derive(Clone, Copy)]
 pub struct Entry {
     pub trip: u32,
     pub stop: u32,

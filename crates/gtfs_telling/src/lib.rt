@@ -2,7 +2,7 @@
 use gtfs_read::Told;
 
 // Of which file a row is.
-#[derive(Drop)]
+#[derive(Clone, Copy)]
 pub enum Row {
     Time,
     Transfer,

@@ -1,6 +1,6 @@
 // Reads stop_times.txt into its table and the books of stops and trips.
 ghost use Rattle.std.specs.Prelude.{◌≡◌, ◌+◌, ◌*◌, ◌≤◌, length, drop};
-ghost use Rattle.csv.specs.Lines.{lines};
+ghost use Rattle.csv_text.specs.Lines.{lines};
 ghost use Rattle.names.specs.Book.{Book};
 ghost use Rattle.feed.specs.Reading.{without_mark};
 ghost use Rattle.feed.specs.Times.{read_times, times_from};
@@ -14,7 +14,7 @@ use gtfs_lines::TimeRead;
 use gtfs_rows::times::{Reached, Took};
 
 // So many stops, trips and rows were taken, and how the reading ends.
-#[derive(Drop)]
+#[derive(Clone, Copy)]
 pub struct TimesTold {
     pub stops: u32,
     pub trips: u32,
@@ -69,7 +69,7 @@ fn read_rows(
         last: 0,
     };
     while i < bytes.len() {
-        let line = csv::line(bytes, i);
+        let line = csv_text::line(bytes, i);
         let values = gtfs_lines::time_line(bytes, i, line.end, c);
         match values {
             TimeRead::Bad => return told_bad(at),
@@ -102,7 +102,7 @@ fn no_header() -> TimesTold
 }
 
 // Where the rows begin, and where their columns stand; or a header that is bad.
-#[derive(Drop)]
+#[derive(Clone, Copy)]
 pub enum Opened {
     Rows { columns: TimesColumns, from: usize },
     Bad,
@@ -117,7 +117,7 @@ fn open(bytes: &[u8]) -> Opened
     if bytes.len() <= a {
         return Opened::Bad;
     }
-    let line = csv::line(bytes, a);
+    let line = csv_text::line(bytes, a);
     let header = gtfs_headers::times_header(bytes, a, line.end);
     match header {
         TimesHeader::Columns(c) => {

@@ -7,13 +7,13 @@ use mathlib.Core.List.{List}
 use native.Mathlib.Omega.{arith}
 use lib.ListN.{length, drop, drop_of_length-le}
 use Rattle.base.specs.Put.{with_bytes}
-use Rattle.csv.specs.There.{if_there}
-use Rattle.csv.specs.Part.{part}
-use Rattle.csv.specs.Fields.{fields}
-use Rattle.csv.specs.Lines.{lines}
-use Rattle.csv.specs.declared.TextLine.{TextLine}
-use Rattle.csv.specs.Read.{LineAt}
-use Rattle.csv.proofs.Stepping.{lines_none}
+use Rattle.csv_text.specs.There.{if_there}
+use Rattle.csv_text.specs.Part.{part}
+use Rattle.csv_text.specs.Fields.{fields}
+use Rattle.csv_text.specs.Lines.{lines}
+use Rattle.csv_text.specs.declared.TextLine.{TextLine}
+use Rattle.csv_text.specs.Read.{LineAt}
+use Rattle.csv_text.proofs.Stepping.{lines_none}
 use Rattle.names.specs.Book.{names_in}
 use Rattle.names.specs.Booked.{Booked}
 use Rattle.names.proofs.Booking.{booked_count, booked_turn}

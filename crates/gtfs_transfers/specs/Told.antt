@@ -1,7 +1,7 @@
 -- What the reader of transfers.txt answers and leaves, and what it must be lent.
 use Rattle.std.specs.Prelude.{ℕ, ◌+◌, ◌*◌, ◌≤◌, ◌≡◌, List, [], length, drop}
 use Rattle.base.specs.Put.{with_bytes}
-use Rattle.csv.specs.Lines.{lines}
+use Rattle.csv_text.specs.Lines.{lines}
 use Rattle.names.specs.declared.Shelf.{Shelf}
 use Rattle.names.specs.Book.{Book, names_in}
 use Rattle.names.specs.Booked.{Booked}

@@ -10,7 +10,7 @@ use gtfs_lines::TransferRead;
 use gtfs_paths::{PathTook, PathsReached};
 
 // So many stops have a name, so many rows were taken, and how the reading ends.
-#[derive(Drop)]
+#[derive(Clone, Copy)]
 pub struct TransfersTold {
     pub stops: u32,
     pub transfers: u32,
@@ -18,7 +18,7 @@ pub struct TransfersTold {
 }
 
 // How many stops the first file names, and where the rows of the second begin.
-#[derive(Drop)]
+#[derive(Clone, Copy)]
 pub struct PathsBegun {
     pub counted: u32,
     pub next: usize,
@@ -67,7 +67,7 @@ fn read_rows(
         transfers: 0,
     };
     while i < second.len() {
-        let line = csv::line(second, i);
+        let line = csv_text::line(second, i);
         let values = gtfs_lines::transfer_line(second, i, line.end, c);
         match values {
             TransferRead::Bad => return told_bad(at),
@@ -110,7 +110,7 @@ pub fn read_transfers(
     if second.len() <= a {
         return told(none, Ending::Bad(1));
     }
-    let line = csv::line(second, a);
+    let line = csv_text::line(second, a);
     let head = gtfs_headers::transfers_header(second, a, line.end);
     match head {
         TransfersHeader::Bad => return told(none, Ending::Bad(1)),

@@ -10,7 +10,7 @@ ghost use Rattle.gtfs_write.specs.Written.{LIMITS, whole_rows, cell};
 use repository::limits;
 
 // So many bytes, or a number and nothing written.
-#[derive(Drop)]
+#[derive(Clone, Copy)]
 pub enum Written {
     Bytes(usize),
     Refused(u32),

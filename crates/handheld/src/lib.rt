@@ -2,7 +2,7 @@
 // specs/, what is promised of it in proofs/; the code that decides it is in `judge`.
 
 // What the depot is told. `verdict_number` of specs/Judged.antt has the number of each case.
-#[derive(Drop)]
+#[derive(Clone, Copy)]
 pub enum Verdict {
     // 0: the legs form a journey that the query asks for
     Yes,
@@ -15,7 +15,7 @@ pub enum Verdict {
 }
 
 // Where legs have led: at which stop one is since when, with how many rides, and whether the last leg was one.
-#[derive(Drop)]
+#[derive(Clone, Copy)]
 pub struct Led {
     pub stop: u32,
     pub moment: u32,
@@ -24,7 +24,7 @@ pub struct Led {
 }
 
 // One leg on, or more of them: where they lead, or that one of them is wrong.
-#[derive(Drop)]
+#[derive(Clone, Copy)]
 pub enum Onward {
     To(Led),
     Wrong,

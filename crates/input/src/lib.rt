@@ -2,7 +2,7 @@
 use libc::STDIN_FILENO;
 
 // How many bytes standard input has, as far as the buffer goes; or that reading it failed.
-#[derive(Drop)]
+#[derive(Clone, Copy)]
 pub enum Input {
     Bytes(usize),
     Failed,

@@ -4,7 +4,7 @@ ghost use Rattle.lines.specs.Token.{longer_by};
 ghost use Rattle.lines.specs.Step.{empty_line, closed, with_word, next_line, line_after, words_after};
 
 // What is known of the line so far.
-#[derive(Drop)]
+#[derive(Clone, Copy)]
 pub struct Line {
     // the value of the line's first token, which names it: of a word its last letter's; 0 before it
     pub name: u64,

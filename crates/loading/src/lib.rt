@@ -13,7 +13,7 @@ const UNREAD: u32 = 4;
 const TIMETABLE: u32 = 5;
 
 // What is known of the file so far.
-#[derive(Drop)]
+#[derive(Clone, Copy)]
 pub struct Words {
     // how many words are stored
     pub count: usize,
@@ -155,7 +155,7 @@ fn feed_all(tables: &mut [u32], words: Words, block: &[u8]) -> Words {
 }
 
 // Whether the file goes on, and the words up to there.
-#[derive(Drop)]
+#[derive(Clone, Copy)]
 struct Turn {
     more: bool,
     words: Words,

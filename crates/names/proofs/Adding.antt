@@ -11,7 +11,7 @@ use lib.Seq.{get_or-set_same, get_or-set_other, drop-set-lt}
 use lib.Dec.{eqb, ltb}
 use borrow.Author.Tests.{eqb-true, eqb-false, eq-eqb, ne_eqb, ltb-true, ltb-false, le-ltb}
 use Rattle.base.proofs.Choice.{split}
-use Rattle.csv.specs.Part.{part}
+use Rattle.csv_text.specs.Part.{part}
 use Rattle.names.specs.declared.Shelf.{Shelf}
 use Rattle.names.specs.Book.{slot_of, last_in, start_at, end_at, next_at, file_of, name_at, one_more, Book, Added}
 

@@ -9,9 +9,9 @@ use lib.ListN.{length, get_or}
 use lib.Dec.{eqb}
 use borrow.Author.Tests.{eqb-true, eqb-false, lt-ltb, le-ltb}
 use Rattle.base.proofs.Choice.{split}
-use Rattle.csv.specs.Part.{part}
-use Rattle.csv.specs.Texts.{same_text}
-use Rattle.csv.proofs.Texts.{same_text_lem}
+use Rattle.csv_text.specs.Part.{part}
+use Rattle.csv_text.specs.Texts.{same_text}
+use Rattle.csv_text.proofs.Texts.{same_text_lem}
 use Rattle.names.specs.Names.{place_among}
 use Rattle.names.specs.declared.Shelf.{Shelf}
 use Rattle.names.specs.Book.{slot_of, last_in, start_at, end_at, file_of, name_at, Book}

@@ -6,8 +6,8 @@ use mathlib.Core.List.{List}
 use native.Mathlib.Omega.{arith}
 use native.Mathlib.Nat.{mod-lt}
 use lib.ListN.{length, get_or}
-use Rattle.csv.specs.Part.{part}
-use Rattle.csv.proofs.Parts.{part_step, part_none}
+use Rattle.csv_text.specs.Part.{part}
+use Rattle.csv_text.proofs.Parts.{part_step, part_none}
 use Rattle.names.specs.Book.{hash_from, slot_of}
 
 pub record Hashing (b : List ℕ) (a e h i : ℕ) : Type 0 where

@@ -4,7 +4,7 @@
 -- others in the second.
 use Rattle.std.specs.Prelude.{ℕ, zero, suc, ◌+◌, ◌*◌, ◌%◌, ◌≤◌, ◌<◌, ◌≡◌, cond, List, [], ◌∷◌, eqb, ltb, length, get_or, drop}
 use Rattle.base.specs.Tab.{tab}
-use Rattle.csv.specs.Part.{part}
+use Rattle.csv_text.specs.Part.{part}
 use Rattle.names.specs.declared.Shelf.{Shelf}
 
 -- any number that the text alone decides

@@ -1,13 +1,13 @@
 // Names of two texts that are lent as bytes, numbered in the order of their first appearance. Nothing is copied: a name is where it stands.
 ghost use Rattle.std.specs.Prelude.{◌≡◌, ◌+◌, ◌*◌, ◌≤◌, ◌<◌, length, get_or};
-ghost use Rattle.csv.specs.Part.{part};
-ghost use Rattle.csv.specs.Texts.{same_text};
+ghost use Rattle.csv_text.specs.Part.{part};
+ghost use Rattle.csv_text.specs.Texts.{same_text};
 ghost use Rattle.names.specs.Names.{place_among};
 ghost use Rattle.names.specs.Book.{slot_of, name_at, one_more, Book, Added, Empty};
 ghost use Rattle.names.specs.Told.{found_as};
 
 // How a book is shared: room for `cap` names, `count` of them taken, those below `split` in the first file.
-#[derive(Drop)]
+#[derive(Clone, Copy)]
 pub struct Shelf {
     pub cap: u32,
     pub split: u32,
@@ -15,7 +15,7 @@ pub struct Shelf {
 }
 
 // A name's number, or none.
-#[derive(Drop)]
+#[derive(Clone, Copy)]
 pub enum Found {
     At(u32),
     Nothing,
@@ -80,9 +80,9 @@ pub fn is_name(
     let s = word(book, row) as usize;
     let t = word(book, row + 1) as usize;
     if i < shelf.split {
-        return csv::same(second, a, e, first, s, t);
+        return csv_text::same(second, a, e, first, s, t);
     }
-    csv::same(second, a, e, second, s, t)
+    csv_text::same(second, a, e, second, s, t)
 }
 
 // The number of the text of the second file among the names that the book holds.

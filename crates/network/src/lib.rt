@@ -3,14 +3,14 @@ mod words; // words.rt: network N, which is built in
 
 // How many words the tables are, and where in the argument the name of their file stands: from `from` to before `to`; nowhere, for network
 // N.
-#[derive(Drop)]
+#[derive(Clone, Copy)]
 pub struct Ready {
     pub count: usize,
     pub from: usize,
     pub to: usize,
 }
 
-#[derive(Drop)]
+#[derive(Clone, Copy)]
 pub enum Loaded {
     Tables(Ready),
     Bad,

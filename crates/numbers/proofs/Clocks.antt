@@ -10,9 +10,9 @@ use lib.ListN.{length, get_or}
 use lib.Dec.{leb, eqb}
 use borrow.Author.Tests.{le-leb, lt-leb, leb-true, eq-eqb, ne_eqb}
 use Rattle.base.proofs.Choice.{split}
-use Rattle.csv.specs.There.{if_there}
-use Rattle.csv.specs.Part.{part}
-use Rattle.csv.proofs.Parts.{part_step, part_length, part_at}
+use Rattle.csv_text.specs.There.{if_there}
+use Rattle.csv_text.specs.Part.{part}
+use Rattle.csv_text.proofs.Parts.{part_step, part_length, part_at}
 use Rattle.numbers.specs.declared.Number.{Number}
 use Rattle.numbers.specs.declared.Number.TheVariants.{Is, Nothing}
 use Rattle.numbers.specs.Decimal.{decimal_from, decimal}

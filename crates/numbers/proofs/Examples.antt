@@ -3,7 +3,7 @@
 use mathlib.Core.Path.{◌≡◌, refl}
 use mathlib.Core.Option.{none, some}
 use mathlib.Core.List.{[], ◌∷◌}
-use Rattle.csv.specs.There.{if_there}
+use Rattle.csv_text.specs.There.{if_there}
 use Rattle.numbers.specs.Decimal.{decimal_from, decimal}
 use Rattle.numbers.specs.Clock.{up_to, eight_bytes, clock}
 

@@ -7,8 +7,8 @@ use mathlib.Core.List.{List, ◌∷◌}
 use native.Mathlib.Omega.{arith}
 use lib.ListN.{length, get_or}
 use borrow.Author.Tests.{le-leb, lt-leb}
-use Rattle.csv.specs.Part.{part}
-use Rattle.csv.proofs.Parts.{part_step, part_none}
+use Rattle.csv_text.specs.Part.{part}
+use Rattle.csv_text.proofs.Parts.{part_step, part_none}
 use Rattle.numbers.specs.declared.Number.TheVariants.{Is, Nothing}
 use Rattle.numbers.specs.Decimal.{decimal_from, decimal}
 use Rattle.numbers.specs.Told.{told_number}

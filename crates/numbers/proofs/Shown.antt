@@ -10,7 +10,7 @@ use borrow.Author.Tests.{le-leb}
 use Rattle.base.specs.Each.{Each, nil, cons}
 use Rattle.base.specs.Put.{with_bytes}
 use Rattle.base.proofs.Put.{put_then, put_one, put_first, put_length}
-use Rattle.csv.specs.There.{if_there}
+use Rattle.csv_text.specs.There.{if_there}
 use Rattle.numbers.specs.Clock.{up_to, eight_bytes, clock, two_digits, clock_text}
 use Rattle.numbers.proofs.Clocks.{both}
 use Rattle.numbers.proofs.Written.{Shown}

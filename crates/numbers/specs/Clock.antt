@@ -1,7 +1,7 @@
 -- "times as H:MM:SS or HH:MM:SS, hours to 99. .. The reader adds 86,400 to each moment"
 use Rattle.std.specs.Prelude.{ℕ, ◌+◌, ◌-◌, ◌*◌, ◌/◌, ◌%◌, cond, ◌&&◌, List, [], ◌∷◌, ◌++◌, leb, eqb, length, get_or}
 use Rattle.std.proofs.Math.Option.{Option, none, some}
-use Rattle.csv.specs.There.{if_there}
+use Rattle.csv_text.specs.There.{if_there}
 use Rattle.numbers.specs.Decimal.{decimal}
 
 -- "adds 86,400": midnight stands a day after moment 0

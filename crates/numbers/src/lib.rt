@@ -1,13 +1,13 @@
 // Numbers as decimal digits and moments as a clock shows them, read and written.
 ghost use Rattle.std.specs.Prelude.{◌≡◌, ◌∷◌, ◌+◌, ◌*◌, ◌≤◌, ◌<◌, length, get_or};
-ghost use Rattle.csv.specs.Part.{part};
+ghost use Rattle.csv_text.specs.Part.{part};
 ghost use Rattle.base.specs.Put.{with_bytes};
 ghost use Rattle.numbers.specs.Decimal.{decimal as decimalOf, digits};
 ghost use Rattle.numbers.specs.Clock.{MIDNIGHT, up_to, eight_bytes, clock as clock_of, two_digits, clock_text};
 ghost use Rattle.numbers.specs.Told.{told_number};
 
 // A number, or none.
-#[derive(Drop)]
+#[derive(Clone, Copy)]
 pub enum Number {
     Is(u32),
     Nothing,

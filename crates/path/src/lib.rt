@@ -14,7 +14,7 @@ use allocator::Parent;
 use model::{Direction, Leg, LegType};
 
 // Where the way back goes on behind a leg.
-#[derive(Drop)]
+#[derive(Clone, Copy)]
 pub enum Step {
     // in this round, from this stop
     On(u32, u32),

@@ -12,7 +12,7 @@ use model::Location;
 use options::Read;
 use questions::{Asked, Direction, Spot};
 
-#[derive(Drop)]
+#[derive(Clone, Copy)]
 enum When {
     At(u32),
     Bad,

@@ -6,7 +6,7 @@ ghost use Rattle.querying.specs.Reading.{read_of};
 use arguments::options::{Chosen, Options, Said};
 
 // The options, or that one is bad.
-#[derive(Drop)]
+#[derive(Clone, Copy)]
 pub enum Read {
     Options(Options),
     Bad,

@@ -11,7 +11,7 @@ use shared::Time;
 
 // A query, the place of the argument that names a file of tables, 0 for none, the timetable's midnight, and whether the journey is asked
 // for as bytes.
-#[derive(Drop)]
+#[derive(Clone, Copy)]
 pub struct Question {
     pub query: Query,
     pub file: usize,
@@ -20,27 +20,27 @@ pub struct Question {
 }
 
 // What is asked, or that an argument is bad.
-#[derive(Drop)]
+#[derive(Clone, Copy)]
 pub enum Asked {
     Question(Question),
     Bad,
 }
 
 // A place of the search, or that an argument names none.
-#[derive(Drop)]
+#[derive(Clone, Copy)]
 pub enum Spot {
     At(Location),
     Bad,
 }
 
-#[derive(Drop)]
+#[derive(Clone, Copy)]
 pub enum Direction {
     Departure,
     Arrival,
     Bad,
 }
 
-#[derive(Drop)]
+#[derive(Clone, Copy)]
 enum Constraint {
     At(TimeConstraint),
     Bad,

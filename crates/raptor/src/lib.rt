@@ -19,7 +19,7 @@ pub fn check(tables: &[u32]) -> u32
 }
 
 // How long each slice of the workspace is to be, or the number that the tables are refused with.
-#[derive(Drop)]
+#[derive(Clone, Copy)]
 pub enum Needed {
     Lengths {
         words: usize,

@@ -111,7 +111,7 @@ fn write_place(tables: &[u32], half: &mut [u32], l: Location) -> usize
 }
 
 // How many stops stand in each half of the places.
-#[derive(Drop)]
+#[derive(Clone, Copy)]
 pub struct Sizes {
     pub origins: usize,
     pub goals: usize,

@@ -123,7 +123,7 @@ fn start_all(words: &mut [u32], marks: &mut [u64], stops: u32, routes: u32, star
 }
 
 // What a search is asked, beside where it starts and ends; with the sizes of its tables and of its workspace.
-#[derive(Drop)]
+#[derive(Clone, Copy)]
 pub struct Ask {
     pub stops: u32,
     pub routes: u32,

@@ -9,7 +9,7 @@ use libc::STDIN_FILENO;
 use lines::Line;
 
 // The line so far, and how many words the tables have.
-#[derive(Drop)]
+#[derive(Clone, Copy)]
 struct At {
     line: Line,
     count: usize,

@@ -90,7 +90,7 @@ fn print_left(name: &[u8], before: u64, after: u64) {
 }
 
 // The digests of the four.
-#[derive(Drop)]
+#[derive(Clone, Copy)]
 struct Digests {
     words: u64,
     marks: u64,
@@ -142,7 +142,7 @@ fn short(length: usize, fault: bool) -> usize {
 }
 
 // The lengths that are lent: what the tables ask for, or one word each for tables that are refused; the fault makes one of them short.
-#[derive(Drop)]
+#[derive(Clone, Copy)]
 struct Lent {
     words: usize,
     marks: usize,

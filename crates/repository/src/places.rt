@@ -8,7 +8,7 @@ ghost use Rattle.repository.specs.Station.{station_is};
 use crate::{sections, words};
 
 // A stop's parent station, or none.
-#[derive(Drop)]
+#[derive(Clone, Copy)]
 pub enum Station {
     At(u32),
     Nothing,

@@ -4,7 +4,7 @@ use borrow.Author.Rules.{rules}
 use Prim.Native.Nat.{◌+◌, ◌-◌}
 use mathlib.Core.Path.{◌≡◌}
 use lib.ListN.{length, drop}
-use Rattle.csv.specs.Lines.{lines}
+use Rattle.csv_text.specs.Lines.{lines}
 use Rattle.feed.specs.Feed.{empty_feed}
 use Rattle.feed.specs.Times.{times_from}
 use Rattle.gtfs_times.proofs.Going.{Going, going_start, going_on, takeable, line_fits}

@@ -1,9 +1,9 @@
--- `csv::line` meets its contract: by the ends of the line and of its text.
+-- `csv_text::line` meets its contract: by the ends of the line and of its text.
 -- Assumes nothing.
 use borrow.Author.Rules.{rules}
-use Rattle.csv.proofs.Stepping.{line_at}
-use Rattle.csv.proofs.line.Statement.{statement}
-use Rattle.csv.proofs.line.Tie as tie
+use Rattle.csv_text.proofs.Stepping.{line_at}
+use Rattle.csv_text.proofs.line.Statement.{statement}
+use Rattle.csv_text.proofs.line.Tie as tie
 
 line-end-requires : tie.Need-line-end-requires
 line-end-requires c κs = search rules

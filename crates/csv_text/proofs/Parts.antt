@@ -8,7 +8,7 @@ use native.Mathlib.Numerals.{add-one}
 use native.Mathlib.Nat.{sub-zero}
 use lib.ListN.{length, get_or, take, drop, length-take, length-drop}
 use lib.Seq.{drop-cons, get_or-drop, get_or-take, take-suc, take-take, take-length}
-use Rattle.csv.specs.Part.{part}
+use Rattle.csv_text.specs.Part.{part}
 
 pub part_step : (b : List ℕ) (a e : ℕ) → a < e → e ≤ length b → part a e b ≡ get_or b a 0 ∷ part (a + 1) e b
 unfolding part

@@ -9,12 +9,12 @@ use native.Mathlib.Omega.{arith}
 use lib.ListN.{length, drop, length-drop}
 use lib.Dec.{eqb}
 use Rattle.base.proofs.Choice.{split}
-use Rattle.csv.specs.Part.{part}
-use Rattle.csv.specs.Lines.{line_of, after_line, trimmed, lines_from, lines}
-use Rattle.csv.specs.Fields.{Scan, taken, wrong, joined, plain, quoted, field, with_field, fields_from, fields}
-use Rattle.csv.specs.declared.TextLine.{TextLine}
-use Rattle.csv.specs.Read.{LineAt}
-use Rattle.csv.proofs.Parts.{part_ends}
+use Rattle.csv_text.specs.Part.{part}
+use Rattle.csv_text.specs.Lines.{line_of, after_line, trimmed, lines_from, lines}
+use Rattle.csv_text.specs.Fields.{Scan, taken, wrong, joined, plain, quoted, field, with_field, fields_from, fields}
+use Rattle.csv_text.specs.declared.TextLine.{TextLine}
+use Rattle.csv_text.specs.Read.{LineAt}
+use Rattle.csv_text.proofs.Parts.{part_ends}
 
 behind_less : (x : ℕ) (b : List ℕ) → length (after_line (x ∷ b)) ≤ length b
 unfolding after_line

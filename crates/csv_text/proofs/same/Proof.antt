@@ -1,10 +1,10 @@
--- `csv::same` meets its contract: what is left of the two decides.
+-- `csv_text::same` meets its contract: what is left of the two decides.
 -- Assumes nothing.
 use borrow.Author.Rules.{rules}
 use Prim.Native.Nat.{◌-◌}
-use Rattle.csv.proofs.Texts.{Alike, alike_start, alike_short, alike_differ, alike_on, alike_end}
-use Rattle.csv.proofs.same.Statement.{statement}
-use Rattle.csv.proofs.same.Tie as tie
+use Rattle.csv_text.proofs.Texts.{Alike, alike_start, alike_short, alike_differ, alike_on, alike_end}
+use Rattle.csv_text.proofs.same.Statement.{statement}
+use Rattle.csv_text.proofs.same.Tie as tie
 
 abbrev invariant-loop : tie.invariant-loop
 invariant-loop one a e other s t i₀ j₀ i j = Alike one a e other s t i j

@@ -9,9 +9,9 @@ use lib.ListN.{length, get_or}
 use lib.Dec.{eqb, leb}
 use borrow.Author.Tests.{eqb-true, eq-eqb, ne_eqb, leb-true, leb-false}
 use Rattle.base.proofs.Choice.{split}
-use Rattle.csv.specs.Part.{part}
-use Rattle.csv.specs.Texts.{same_text}
-use Rattle.csv.proofs.Parts.{part_step, part_none}
+use Rattle.csv_text.specs.Part.{part}
+use Rattle.csv_text.specs.Texts.{same_text}
+use Rattle.csv_text.proofs.Parts.{part_step, part_none}
 
 pub same_text_lem : (xs ys : List ℕ) → same_text xs ys ≡ true → xs ≡ ys
 unfolding same_text

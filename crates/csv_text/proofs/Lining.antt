@@ -8,9 +8,9 @@ use native.Mathlib.Numerals.{add-one}
 use lib.ListN.{length, get_or, drop, drop_of_length-le}
 use lib.Seq.{drop-cons}
 use borrow.Author.Tests.{eq-eqb, ne_eqb}
-use Rattle.csv.specs.Part.{part}
-use Rattle.csv.specs.Lines.{line_of, after_line, trimmed}
-use Rattle.csv.proofs.Parts.{part_none, part_more, part_length, part_at, part_take}
+use Rattle.csv_text.specs.Part.{part}
+use Rattle.csv_text.specs.Lines.{line_of, after_line, trimmed}
+use Rattle.csv_text.proofs.Parts.{part_none, part_more, part_length, part_at, part_take}
 
 pub record Seeking (b : List ℕ) (a i : ℕ) : Type 0 where
   pub low : a ≤ i

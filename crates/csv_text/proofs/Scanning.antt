@@ -7,12 +7,12 @@ use mathlib.Core.List.{List, [], ◌∷◌, ◌++◌, append-nil, append_assoc}
 use native.Mathlib.Omega.{arith}
 use lib.ListN.{length, get_or}
 use borrow.Author.Tests.{eq-eqb, ne_eqb}
-use Rattle.csv.specs.Part.{part}
-use Rattle.csv.specs.Fields.{Scan, taken, wrong, joined, plain, quoted, field}
-use Rattle.csv.specs.declared.Scanned.{Scanned}
-use Rattle.csv.specs.declared.Scanned.TheVariants.{Taken, Wrong}
-use Rattle.csv.specs.Read.{scan_of, Within}
-use Rattle.csv.proofs.Parts.{part_step, part_none, part_more}
+use Rattle.csv_text.specs.Part.{part}
+use Rattle.csv_text.specs.Fields.{Scan, taken, wrong, joined, plain, quoted, field}
+use Rattle.csv_text.specs.declared.Scanned.{Scanned}
+use Rattle.csv_text.specs.declared.Scanned.TheVariants.{Taken, Wrong}
+use Rattle.csv_text.specs.Read.{scan_of, Within}
+use Rattle.csv_text.proofs.Parts.{part_step, part_none, part_more}
 
 -- a text before a scan
 led : List ℕ → Scan → Scan

@@ -1,20 +1,20 @@
 // Lines and fields of a text that is lent as bytes.
 ghost use Rattle.std.specs.Prelude.{false, ◌≡◌, ◌+◌, ◌≤◌, ◌<◌, length, drop};
-ghost use Rattle.csv.specs.Part.{part};
-ghost use Rattle.csv.specs.Texts.{same_text};
-ghost use Rattle.csv.specs.Lines.{line_of, after_line, trimmed};
-ghost use Rattle.csv.specs.Fields.{plain, quoted, field as fieldIn};
-ghost use Rattle.csv.specs.Read.{scan_of, Within, LineAt};
+ghost use Rattle.csv_text.specs.Part.{part};
+ghost use Rattle.csv_text.specs.Texts.{same_text};
+ghost use Rattle.csv_text.specs.Lines.{line_of, after_line, trimmed};
+ghost use Rattle.csv_text.specs.Fields.{plain, quoted, field as fieldIn};
+ghost use Rattle.csv_text.specs.Read.{scan_of, Within, LineAt};
 
 // A field of a line: its text stands from `from` up to below `to`, and `next` is where a comma or the line's end follows.
-#[derive(Drop)]
+#[derive(Clone, Copy)]
 pub enum Scanned {
     Taken { from: usize, to: usize, next: usize },
     Wrong,
 }
 
 // A line: its text ends before `end`, and the next line begins at `next`.
-#[derive(Drop)]
+#[derive(Clone, Copy)]
 pub struct TextLine {
     pub end: usize,
     pub next: usize,
