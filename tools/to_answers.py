@@ -86,11 +86,12 @@ class Function:
     def body(self, text):
         text = re.sub(r"\bκs\b ?", "", text) if re.match(r"^\S+ (?:\w+ )*c κs", text) else text
         text = re.sub(r"(?<=[\w)])(?:\.before\b)+", "", text)
+        heads = ["c"] + re.findall(r"\blet (\S+) = c in\b", text)
 
         def step(m):
-            return "." + self.steps.get(norm(m[1]), m[1])
+            return m[1] + self.steps.get(norm(m[2]), m[2])
 
-        text = re.sub(r"\.([A-Za-z_][\w'-]*)", step, text)
+        text = re.sub(rf"(?<![^\s(){{}};,@\[\]])((?:{'|'.join(map(re.escape, heads))})\.)([A-Za-z_][\w'-]*)", step, text)
         return re.sub(r"(\.[\w'-]+)?\.(requires|ensures)((?:\.[01]\b)+)", self.clause, text)
 
     def clause(self, m):
