@@ -24,7 +24,8 @@ def clauses_of(top):
         for m in re.finditer(r"\bfn (\w+)[^;{]*?\)[^{;]*?(?=\n\s*(?:requires|ensures)|\s*\{)((?:\n\s*(?:requires|ensures)[^\n]*(?:\n(?!\{|\s*(?:requires|ensures))[^\n]*)*)*)", text):
             req = re.findall(r"^\s*requires(?: (\w+))? \{", m[2], re.M)
             ens = re.findall(r"^\s*ensures(?: (\w+))? \{", m[2], re.M)
-            found.setdefault(m[1], []).append((req, ens))
+            own = re.search(r"crates/(\w+)/src", path)
+            found.setdefault(m[1], []).append((own[1] if own else "", req, ens))
     return found
 
 
@@ -68,6 +69,9 @@ class Function:
         self.crate, self.folder, self.names, self.clauses = crate, folder, names, clauses
         self.path = ".".join(os.path.relpath(folder, f"crates/{crate}/proofs").split(os.sep))
         self.fn = self.path.split(".")[-1].lstrip("+")
+        own = lambda f: sorted(clauses.get(f, []), key=lambda it: (it[0] != crate, not it[0]))
+        self.req = lambda f: [it[1] for it in own(f)]
+        self.ens = lambda f: [it[2] for it in own(f)]
         self.needs = {norm(a): b for a, b in names["needs"]}
         self.steps = {}
         for place in names["places"]:
@@ -98,9 +102,9 @@ class Function:
         """A clause by its name, where it stood by its place among pairs."""
         of = m[1] or ""
         if m[2] == "requires" or not of:
-            lists = [req for req, _ in self.clauses.get(self.fn, [])]
+            lists = self.req(self.fn)
         else:
-            lists = [ens for _, ens in self.clauses.get(of[1:].split("-")[0], [])]
+            lists = self.ens(of[1:].split("-")[0])
         at = m[3].split(".")[1:]
         for names in lists:
             n = len(names)
@@ -193,14 +197,14 @@ class Function:
             return []
         args = [a for a in m[2].split() if a != "κs"]
         term = rest[m.end():]
-        if re.fullmatch(r"search (rules|needs)", term.strip()) and not unfolding:
+        if re.fullmatch(r"\(?search( rules| needs)?\)?", term.strip()) and not unfolding:
             return []
         table = {old: to for old, to in renamed.items()}
         write = lambda goal, t: "\n".join(said + [f"pub {goal} : goal.{goal}"] + unfolding + [f"{goal} {' '.join(args)} ={'' if t.startswith(chr(10)) else ' '}{t}"])
         term = swap(self.body(term), table)
         many = self.split(new, term)
         if many:
-            return [write(f"{new}-clause-{k}", v) for k, v in many if not (re.fullmatch(r"search rules", v) and not unfolding)]
+            return [write(f"{new}-clause-{k}", v) for k, v in many if not (re.fullmatch(r"\(?search( rules)?\)?", v) and not unfolding)]
         term = self.recorded(new, term)
         if "\n" in term:
             term = "\n    " + term.lstrip()
@@ -229,10 +233,13 @@ class Function:
             return None
         m = re.match(r"([\w]+?)(?:-.*)?-requires", goal) or re.match(r"(\w+)-requires", goal)
         lists = []
+        old = {b: a for a, b in self.names["needs"]}.get(goal)
         if goal.startswith("returns"):
-            lists = [ens for _, ens in self.clauses.get(self.fn, [])]
+            lists = self.ens(self.fn)
+        elif old in self.names["asked"]:
+            lists = [self.names["asked"][old]]
         elif m:
-            lists = [req for req, _ in self.clauses.get(m[1], [])]
+            lists = self.req(m[1])
         for names in lists:
             for cut in flat(term):
                 if len(cut) == len(names) and all(names):
