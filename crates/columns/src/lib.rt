@@ -1,4 +1,6 @@
 // The fields that are wanted of a line, and the columns of a header, in a text that is lent as bytes.
+#![tactic(auto)]
+
 ghost use Rattle.std.specs.Prelude.{◌≡◌, cond, ◌≤◌, ◌<◌, eqb, length};
 ghost use Rattle.csv_text.specs.Part.{part};
 ghost use Rattle.csv_text.specs.Texts.{same_text};

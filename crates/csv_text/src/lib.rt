@@ -1,4 +1,6 @@
 // Lines and fields of a text that is lent as bytes.
+#![tactic(auto)]
+
 ghost use Rattle.std.specs.Prelude.{false, ◌≡◌, ◌+◌, ◌≤◌, ◌<◌, length, drop};
 ghost use Rattle.csv_text.specs.Part.{part};
 ghost use Rattle.csv_text.specs.Texts.{same_text};

@@ -1,4 +1,5 @@
 // What request 1 reads and writes: the definitions stand in specs/, the theorems about them in proofs/.
+#![tactic(auto)]
 
 use columns::Span;
 

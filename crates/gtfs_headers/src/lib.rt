@@ -1,4 +1,6 @@
 // Where the lines of stop_times.txt and transfers.txt begin, and the places of their headers' columns.
+#![tactic(auto)]
+
 ghost use Rattle.std.specs.Prelude.{◌≡◌, ◌≤◌, length, drop};
 ghost use Rattle.csv_text.specs.There.{if_there};
 ghost use Rattle.csv_text.specs.Part.{part};

@@ -1,4 +1,6 @@
 // Names of two texts that are lent as bytes, numbered in the order of their first appearance. Nothing is copied: a name is where it stands.
+#![tactic(auto)]
+
 ghost use Rattle.std.specs.Prelude.{◌≡◌, ◌+◌, ◌*◌, ◌≤◌, ◌<◌, length, get_or};
 ghost use Rattle.csv_text.specs.Part.{part};
 ghost use Rattle.csv_text.specs.Texts.{same_text};

@@ -1,4 +1,6 @@
 // Numbers as decimal digits and moments as a clock shows them, read and written.
+#![tactic(auto)]
+
 ghost use Rattle.std.specs.Prelude.{◌≡◌, ◌∷◌, ◌+◌, ◌*◌, ◌≤◌, ◌<◌, length, get_or};
 ghost use Rattle.csv_text.specs.Part.{part};
 ghost use Rattle.base.specs.Put.{with_bytes};

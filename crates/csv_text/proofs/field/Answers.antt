@@ -1,0 +1,17 @@
+-- `csv_text::field` meets its contract: by the first byte.
+-- Assumes nothing.
+use Rattle.csv_text.proofs.Scanning.{field_quoted, field_plain, field_empty, within_wider}
+use borrow.Author.Rules.{rules}
+use Rattle.csv_text.proofs.field.Goals as goal
+
+pub returns-then-bytes-a-eq34-clause-result_value : goal.returns-then-bytes-a-eq34-clause-result_value
+returns-then-bytes-a-eq34-clause-result_value c = search (rules, field_quoted)
+
+pub returns-then-bytes-a-eq34-clause-within : goal.returns-then-bytes-a-eq34-clause-within
+returns-then-bytes-a-eq34-clause-within c = search (rules, within_wider)
+
+pub returns-then-a-e-clause-result_value : goal.returns-then-a-e-clause-result_value
+returns-then-a-e-clause-result_value c = search (rules, field_plain)
+
+pub returns-clause-result_value : goal.returns-clause-result_value
+returns-clause-result_value c = search (rules, field_empty)

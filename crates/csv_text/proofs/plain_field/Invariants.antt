@@ -1,0 +1,13 @@
+-- `csv_text::plain_field` meets its contract: the bytes behind are the text so far.
+-- Assumes nothing.
+use borrow.Author.Rules.{rules}
+use Prim.Native.Nat.{◌-◌}
+use Rattle.csv_text.specs.Fields.{plain}
+use Rattle.csv_text.proofs.Scanning.{Going, going_start, plain_on, plain_comma, plain_quote, plain_end}
+use Rattle.csv_text.proofs.plain_field.Given as goal
+
+abbrev pub invariant-loop-i : goal.invariant-loop-i
+invariant-loop-i l = Going plain l.bytes l.a l.e l.i
+
+abbrev pub decreases-loop-i : goal.decreases-loop-i
+decreases-loop-i l = l.e - l.i

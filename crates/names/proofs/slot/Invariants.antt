@@ -1,0 +1,12 @@
+-- `names::slot` meets its contract: the number so far and what is left decide.
+-- Assumes nothing.
+use borrow.Author.Rules.{rules}
+use Prim.Native.Nat.{◌-◌}
+use Rattle.names.proofs.Slots.{Hashing, hashing_start, hashing_on, hashing_end, slot_below}
+use Rattle.names.proofs.slot.Given as goal
+
+abbrev pub invariant-loop-i : goal.invariant-loop-i
+invariant-loop-i l = Hashing l.bytes l.a l.e l.h l.i
+
+abbrev pub decreases-loop-i : goal.decreases-loop-i
+decreases-loop-i l = l.e - l.i

@@ -1,0 +1,11 @@
+-- `numbers::byte` meets its contract: a byte fits.
+-- Assumes nothing.
+use borrow.Author.Rules.{rules}
+use native.Mathlib.Omega.{arith}
+use Rattle.numbers.proofs.byte.Goals as goal
+
+pub overflow_cast-result : goal.overflow_cast-result
+overflow_cast-result c = omega (arith, c.shared_slice_known-1.given c.args.i)
+
+pub returns : goal.returns
+returns c = (search rules, omega (arith, c.shared_slice_known-1.given c.args.i))
