@@ -20,5 +20,5 @@ module _ (w : List ℕ) {a : Bool} (ea : a ≡ calls_hold w) where
     unfolding stop_routes
     calls_whole t e = rw (← ea, not-false a ta, ← eb, not-false b t) e
 
-pub calls_rose : (w : List ℕ) {b : Bool} → b ≡ calls_rise w → not b ≡ false → calls_rise w ≡ true
-calls_rose w {b} e t = sym e ∙ not-false b t
+pub calls_rose : (w : List ℕ) {b : Bool} → b ≡ calls_rise w → b ≡ true → calls_rise w ≡ true
+calls_rose w e t = sym e ∙ t

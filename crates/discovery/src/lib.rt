@@ -1,4 +1,6 @@
 // What the search looks up (discovery.rs): moments, trips by halving, first positions, spans, and the stops of a place.
+#![tactic(auto)]
+
 pub mod places; // places.rt: the stops of a stop or an area
 
 ghost use Rattle.std.specs.Prelude.{◌≡◌, ℕ, ◌<◌};

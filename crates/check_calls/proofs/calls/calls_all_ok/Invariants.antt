@@ -1,0 +1,23 @@
+-- `calls_all_ok`: the routes that are left decide, and the positions left of one.
+use borrow.Author.Rules.{rules}
+use Prim.Native.Nat.{◌-◌}
+use Rattle.base.specs.All.{So}
+use Rattle.base.proofs.All.{so_start}
+use Rattle.repository.specs.Sections.{routes}
+use Rattle.repository.specs.Listed.{called, called_along, calls_all}
+use Rattle.check_calls.proofs.Entries.{route_entry}
+use Rattle.check_calls.proofs.Turns.{done, turn_on}
+use Rattle.check_calls.proofs.Loops.{route_called, route_uncalled}
+use Rattle.check_calls.proofs.calls.calls_all_ok.Given as goal
+
+abbrev pub invariant-loop-p : goal.invariant-loop-p
+invariant-loop-p l = So (called l.tables l.r) 0 l.end l.p
+
+abbrev pub decreases-loop-p : goal.decreases-loop-p
+decreases-loop-p l = l.end - l.p
+
+abbrev pub invariant-loop-r : goal.invariant-loop-r
+invariant-loop-r l = So (called_along l.tables) 0 (routes l.tables) l.r
+
+abbrev pub decreases-loop-r : goal.decreases-loop-r
+decreases-loop-r l = l.n - l.r

@@ -1,0 +1,20 @@
+-- `first_up`: two steps away from the first trip, none of them past the one that is looked for.
+use borrow.Author.Rules.{rules}
+use Prim.Native.Nat.{◌-◌}
+use Rattle.base.specs.Halving.{Bracket}
+use Rattle.repository.specs.NetOf.{net_of}
+use Rattle.discovery.specs.Trips.{not_before}
+use Rattle.discovery.proofs.Near.{closed, in_up, step_after, stop_up}
+use Rattle.discovery.proofs.first_up.Goals as goal
+
+pub returns-then-lo-to : goal.returns-then-lo-to
+returns-then-lo-to c = search (rules, closed)
+
+pub is_not_before-requires : goal.is_not_before-requires
+is_not_before-requires c = search (rules, in_up)
+
+pub returns-then-is_not_before : goal.returns-then-is_not_before
+returns-then-is_not_before c = search (rules, stop_up)
+
+pub loop-steps-preserved : goal.loop-steps-preserved
+loop-steps-preserved c = search (rules, step_after)
