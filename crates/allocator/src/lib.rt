@@ -4,6 +4,8 @@
 // (15 * stops rows of 6 words).
 // `marks` holds the marks of the stops, of the stops as held, and of the routes that a round scans,
 // each in whole words of 64.
+#![tactic(auto)]
+
 ghost use Rattle.std.specs.Prelude.{Bool, ◌≡◌, ◌+◌, ◌-◌, ◌*◌, ◌<◌, ◌≤◌, length, get_or, set, replicate};
 ghost use Rattle.std.proofs.Math.Option.{none, some};
 ghost use Rattle.marks.specs.Marks.{first_of};

@@ -1,4 +1,6 @@
 // What a round is given, by value; and in specs/ the half-rounds in one pass, to which the explorers' code is held.
+#![tactic(auto)]
+
 use model::Direction;
 use shared::Time;
 

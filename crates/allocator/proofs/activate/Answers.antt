@@ -1,0 +1,11 @@
+-- `allocator::activate` meets its contract: by the direction.
+-- Assumes nothing.
+use borrow.Author.Rules.{rules}
+use Rattle.allocator.proofs.Operated.{activates}
+use Rattle.allocator.proofs.activate.Goals as goal
+
+pub returns-in-Departure : goal.returns-in-Departure
+returns-in-Departure c = search (rules, activates)
+
+pub returns-in-Arrival : goal.returns-in-Arrival
+returns-in-Arrival c = search (rules, activates)

@@ -1,0 +1,8 @@
+-- `allocator::active_at` meets its contract: the word is that of the section.
+-- Assumes nothing.
+use borrow.Author.Rules.{rules}
+use Rattle.allocator.proofs.Read.{active_get}
+use Rattle.allocator.proofs.active_at.Goals as goal
+
+pub returns : goal.returns
+returns c = search (rules, active_get)

@@ -1,0 +1,8 @@
+-- `allocator::held_at` meets its contract: the word is that of the section.
+-- Assumes nothing.
+use borrow.Author.Rules.{rules}
+use Rattle.allocator.proofs.Read.{held_get}
+use Rattle.allocator.proofs.held_at.Goals as goal
+
+pub returns : goal.returns
+returns c = search (rules, held_get)
