@@ -1,0 +1,11 @@
+-- `arguments::bytes::value_in`: the value is that of the digits before i.
+use borrow.Author.Rules.{rules}
+use Rattle.arguments.proofs.Digits.{Read, read_start, read_on, read_over, read_end}
+use Prim.Native.Nat.{◌-◌}
+use Rattle.arguments.proofs.bytes.value_in.Given as goal
+
+abbrev pub invariant-loop-i : goal.invariant-loop-i
+invariant-loop-i l = Read l.arg l.from l.to l.value l.i
+
+abbrev pub decreases-loop-i : goal.decreases-loop-i
+decreases-loop-i l = l.to - l.i
