@@ -218,6 +218,14 @@ class Function:
             depth -= m[0] in ")]"
             if m[0] == "in" and depth == 0:
                 at = m.end()
+        last = term[at:].strip()
+        names = self.names_of(goal)
+        if names and not re.match(r"[(]|search|record|omega|simp|rw|cc|absurd|elim|\?|λ", last):
+            # a lemma that says all clauses at once
+            n = len(names)
+            path = lambda k: ".1" * k + (".0" if k < n - 1 else "")
+            fields = "; ".join(f"{k} = all{path(i)}" for i, k in enumerate(names))
+            return f"{term[:at]}{' ' if at else ''}let all = {last} in record {{ {fields} }}"
         if at == 0:
             return term
         many = self.split(goal, term[at:])
@@ -225,6 +233,14 @@ class Function:
             return term
         space = re.match(r"\s*", term[at:])[0]
         return term[:at] + space + "record { " + "; ".join(f"{k} = {v}" for k, v in many) + " }"
+
+    def names_of(self, goal):
+        """The names of a goal's clauses, where it has several."""
+        old = {b: a for a, b in self.names["needs"]}.get(goal)
+        lists = [self.names["asked"][old]] if old in self.names["asked"] else []
+        if goal.startswith("returns"):
+            lists = self.ens(self.fn)[:1]
+        return lists[0] if lists and len(lists[0]) > 1 and all(lists[0]) else None
 
     def split(self, goal, term):
         """The clauses of a goal whose answer was a tuple."""
