@@ -1,4 +1,6 @@
 // One line of stop_times.txt or transfers.txt as values: a row's ids, by where they stand, and its numbers. Nothing is written.
+#![tactic(auto)]
+
 ghost use Rattle.std.specs.Prelude.{◌≡◌, ◌≤◌, length};
 ghost use Rattle.csv_text.specs.There.{if_there};
 ghost use Rattle.csv_text.specs.Part.{part};

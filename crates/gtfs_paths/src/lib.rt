@@ -1,4 +1,6 @@
 // A row of transfers.txt: whether it is taken, and how.
+#![tactic(auto)]
+
 ghost use Rattle.std.specs.Prelude.{◌≡◌, ◌*◌, ◌<◌};
 ghost use Rattle.base.specs.Put.{with_bytes};
 ghost use Rattle.columns.specs.Picks.{text_at, Spanned};
