@@ -1,4 +1,6 @@
 // Lines of words, read byte by byte: a first token that names the line, then decimal numbers or single letters.
+#![tactic(auto)]
+
 ghost use Rattle.std.specs.Prelude.{◌≡◌, ◌≤◌, ◌<◌, length};
 ghost use Rattle.lines.specs.Token.{longer_by};
 ghost use Rattle.lines.specs.Step.{empty_line, closed, with_word, next_line, line_after, words_after};
