@@ -1,4 +1,6 @@
 // Reads transfers.txt into its table and the book of stops.
+#![tactic(auto)]
+
 ghost use Rattle.std.specs.Prelude.{◌≡◌, ◌+◌, ◌≤◌};
 ghost use Rattle.feed.specs.declared.Ending.TheVariants.{Bad};
 ghost use Rattle.gtfs_transfers.specs.Told.{transfers_told, paths_told_at, transfers_read, rows_read};
