@@ -48,7 +48,7 @@ def parts(term):
     for cut in cuts + [len(term) - 1]:
         out.append(term[at:cut].strip())
         at = cut + 1
-    return out
+    return out if out[-1] else out[:-1]
 
 
 def flat(term):
