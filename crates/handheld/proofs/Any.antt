@@ -60,6 +60,7 @@ upto_end i b h = let none : b - i ≡ 0 = omega arith in rw none
 -- which numbers these are
 pub upto_in : (n i : ℕ) {k : ℕ} → Memᴰ k (upto n i) → (i ≤ k) × (k < i + n)
 unfolding upto
+upto_in zero i {k = k} x' = elim x' [ ]
 upto_in (suc n) i (Memᴰ.head p) = (omega (arith, p), omega (arith, p))
 upto_in (suc n) i (Memᴰ.tail m) = let h = upto_in n (suc i) m in (omega (arith, h.0), omega (arith, h.1))
 
