@@ -1,6 +1,8 @@
 // Number 1 of the table check: whether the tables are laid, so that every index that a reader computes is in range.
 // Nothing is known of the words at first: the header is tested before a section is read, and the sizes before a
 // starts section is.
+#![tactic(auto)]
+
 ghost use Rattle.std.specs.Prelude.{◌≡◌, ◌+◌, ◌-◌, ◌/◌, ◌≤◌, ◌<◌, length};
 ghost use Rattle.base.specs.All.{all};
 ghost use Rattle.repository.specs.Sections.{size, ROUTE_STOP_STARTS, SECTIONS};

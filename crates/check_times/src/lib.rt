@@ -1,4 +1,6 @@
 // Numbers 3 and 4: the timetable of every route.
+#![tactic(auto)]
+
 ghost use Rattle.std.specs.Prelude.{◌≡◌, ◌+◌, ◌≤◌, ◌<◌};
 ghost use Rattle.repository.specs.NetOf.{net_of};
 ghost use Rattle.repository.specs.Laid.{Laid};

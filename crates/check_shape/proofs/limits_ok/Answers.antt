@@ -1,0 +1,32 @@
+-- `limits_ok`: the answer joins its tests as the definition does.
+use borrow.Author.Rules.{rules}
+use lib.Dec.{lit<}
+use Rattle.check_shape.proofs.Tests.{limited_is}
+use Rattle.check_shape.proofs.limits_ok.Goals as goal
+
+pub size_of-requires-clause-k_bound : goal.size_of-requires-clause-k_bound
+size_of-requires-clause-k_bound c = lit< tt
+
+pub entries-requires-clause-k_bound : goal.entries-requires-clause-k_bound
+entries-requires-clause-k_bound c = lit< tt
+
+pub entries-requires-2-clause-k_bound : goal.entries-requires-2-clause-k_bound
+entries-requires-2-clause-k_bound c = lit< tt
+
+pub size_of-requires-2-clause-k_bound : goal.size_of-requires-2-clause-k_bound
+size_of-requires-2-clause-k_bound c = lit< tt
+
+pub size_of-requires-3-clause-k_bound : goal.size_of-requires-3-clause-k_bound
+size_of-requires-3-clause-k_bound c = lit< tt
+
+pub size_of-requires-4-clause-k_bound : goal.size_of-requires-4-clause-k_bound
+size_of-requires-4-clause-k_bound c = lit< tt
+
+pub entries-requires-3-clause-k_bound : goal.entries-requires-3-clause-k_bound
+entries-requires-3-clause-k_bound c = lit< tt
+
+pub size_of-requires-5-clause-k_bound : goal.size_of-requires-5-clause-k_bound
+size_of-requires-5-clause-k_bound c = lit< tt
+
+pub returns : goal.returns
+returns c = search limited_is

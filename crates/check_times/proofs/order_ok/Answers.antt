@@ -1,0 +1,35 @@
+-- `order_ok`: as `times_ok`, and the innermost loop keeps the times of the trip before.
+use borrow.Author.Rules.{rules}
+use mathlib.Core.Path.{◌≡◌}
+use mathlib.Core.Bool.{true}
+use Prim.Native.Nat.{◌-◌}
+use Rattle.repository.specs.NetOf.{net_of}
+use Rattle.repository.specs.Checked.{behind}
+use Rattle.check_times.proofs.Walk.{OnRoutes, OnPositions, OnTrips, routes_start, routes_end}
+use Rattle.check_times.proofs.Walk.{positions_start, positions_end, trips_start, trips_end, trips_on, fault}
+use Rattle.check_times.proofs.Tests.{Last, last_start, last_on, behind_is, ordered_is}
+use Rattle.check_times.proofs.order_ok.Goals as goal
+
+pub all-init : goal.all-init
+all-init c = search (rules, routes_start)
+
+pub loop-p-init : goal.loop-p-init
+loop-p-init c = search (rules, positions_start)
+
+pub loop-i-init : goal.loop-i-init
+loop-i-init c = search (rules, trips_start, last_start)
+
+pub loop-i-preserved : goal.loop-i-preserved
+loop-i-preserved c = (search (rules, trips_on, behind_is), search (rules, last_on), search rules)
+
+pub loop-p-preserved : goal.loop-p-preserved
+loop-p-preserved c = search (rules, trips_end)
+
+pub all-preserved : goal.all-preserved
+all-preserved c = search (rules, positions_end)
+
+pub returns-after-all : goal.returns-after-all
+returns-after-all c = search (rules, ordered_is, routes_end)
+
+pub returns-else-good : goal.returns-else-good
+returns-else-good c = search (rules, ordered_is, fault, behind_is)
