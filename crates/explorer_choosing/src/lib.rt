@@ -1,4 +1,6 @@
 // How a round begins: labels swapped, routes chosen, marks cleared.
+#![tactic(auto)]
+
 ghost use Rattle.std.specs.Prelude.{◌<◌};
 ghost use Rattle.repository.specs.NetOf.{net_of};
 ghost use Rattle.allocator.specs.Does.{Usable, Does};
