@@ -1,6 +1,8 @@
 // The way back: from the chosen stop and round the parents are followed to the start. It is walked
 // twice, once for the bytes that its legs take and once to write them, and nothing is kept between:
 // "Count first, then put every leg at its final place." (document 02)
+#![tactic(auto)]
+
 ghost use Rattle.std.specs.Prelude.{◌++◌, ◌≡◌, ◌≤◌, ◌<◌, length, drop};
 ghost use Rattle.model.specs.Limits.{MOST_ROUNDS};
 ghost use Rattle.model.specs.Back.{near as nearSide, back, in_order};
