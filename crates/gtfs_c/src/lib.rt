@@ -43,8 +43,7 @@ fn tell_written(told: &mut [u32], w: Written) -> u32
 }
 
 // Writes rows of times as a file.
-#[unsafe(no_mangle)]
-pub extern "C" fn kiosk_gtfs_write_times(times: &[u32], out: &mut [u8], told: &mut [u32]) -> u32
+pub fn kiosk_gtfs_write_times(times: &[u32], out: &mut [u8], told: &mut [u32]) -> u32
     ensures value { result ≡ writing_answer (written_times times.now (length out.old)) told.old }
     ensures out_after { out.new ≡ writing_left (written_times times.now (length out.old)) told.old
         out.old (write_times (time_rows_in times.now)) }
@@ -58,8 +57,7 @@ pub extern "C" fn kiosk_gtfs_write_times(times: &[u32], out: &mut [u8], told: &m
 }
 
 // Writes rows of transfers as a file.
-#[unsafe(no_mangle)]
-pub extern "C" fn kiosk_gtfs_write_transfers(
+pub fn kiosk_gtfs_write_transfers(
     transfers: &[u32],
     stops: u32,
     out: &mut [u8],
@@ -103,8 +101,7 @@ fn short_number(stop_times: &[u8], transfers: &[u8]) -> u32
 }
 
 // Reads both files into what is lent.
-#[unsafe(no_mangle)]
-pub extern "C" fn kiosk_gtfs_read(
+pub fn kiosk_gtfs_read(
     stop_times: &[u8],
     transfers: &[u8],
     times: &mut [u32],

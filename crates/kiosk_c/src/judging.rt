@@ -34,8 +34,7 @@ fn tell_verdict(told: &mut [u64], v: Verdict) -> u32
 
 // Whether journey bytes are a journey that the query asks for: 0, and 1 is told for yes, 0 for no; 13, and the offset of the bad leg's
 // first byte is told; 1 to 5, 7, 8, 9. Where there is no word to tell it in, the tables' own number, or 6.
-#[unsafe(no_mangle)]
-pub extern "C" fn kiosk_judge(
+pub fn kiosk_judge(
     tables: &[u32],
     bytes: &[u8],
     from_kind: u32,
@@ -61,8 +60,7 @@ pub extern "C" fn kiosk_judge(
 }
 
 // The same, for tables that `kiosk_check` answered with 0.
-#[unsafe(no_mangle)]
-pub extern "C" fn kiosk_judge_checked(
+pub fn kiosk_judge_checked(
     tables: &[u32],
     bytes: &[u8],
     from_kind: u32,

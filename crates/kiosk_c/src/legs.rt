@@ -8,8 +8,7 @@ use journey::{LegRead, Reading};
 
 // Reads journey bytes: 0 where they are legs, whose number is told; 13 where they are not, and the offset of the bad leg's first byte is
 // told; 6 where there is no word to tell it in.
-#[unsafe(no_mangle)]
-pub extern "C" fn kiosk_read(bytes: &[u8], told: &mut [u64]) -> u32
+pub fn kiosk_read(bytes: &[u8], told: &mut [u64]) -> u32
     ensures value { result ≡ read_number (reading_of (read_all bytes.now)) told.old }
     ensures told_after { told.new ≡ read_left (reading_of (read_all bytes.now)) told.old }
 {
@@ -31,8 +30,7 @@ pub extern "C" fn kiosk_read(bytes: &[u8], told: &mut [u64]) -> u32
 
 // The leg that starts at an offset: how many bytes it takes, 0 where no byte is left there, 13 where it is none; 6 where there are not six
 // words for it.
-#[unsafe(no_mangle)]
-pub extern "C" fn kiosk_leg(bytes: &[u8], at: usize, leg: &mut [u32]) -> u32
+pub fn kiosk_leg(bytes: &[u8], at: usize, leg: &mut [u32]) -> u32
     ensures value { result ≡ leg_number (leg_from bytes.now at) leg.old }
     ensures leg_after { leg.new ≡ leg_left (leg_from bytes.now at) leg.old }
 {

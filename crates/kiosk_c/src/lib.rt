@@ -12,8 +12,7 @@ pub mod judging; // judging.rt: journeys that handhelds send
 pub mod legs; // legs.rt: journey bytes, read
 
 // 0 where the tables are accepted, else the lowest number, 1 to 5, of which they have a fault.
-#[unsafe(no_mangle)]
-pub extern "C" fn kiosk_check(tables: &[u32]) -> u32
+pub fn kiosk_check(tables: &[u32]) -> u32
     ensures { result ≡ check_of tables.now }
 {
     raptor::check(tables)
@@ -21,8 +20,7 @@ pub extern "C" fn kiosk_check(tables: &[u32]) -> u32
 
 // The three lengths that a search on these tables asks for: words, marks, places. 1 to 5 for tables that are refused, 6 where there are
 // not three words for the lengths.
-#[unsafe(no_mangle)]
-pub extern "C" fn kiosk_room(tables: &[u32], room: &mut [u32]) -> u32
+pub fn kiosk_room(tables: &[u32], room: &mut [u32]) -> u32
     ensures value { result ≡ room_number tables.now room.old }
     ensures room_after { room.new ≡ room_left tables.now room.old }
 {
@@ -57,8 +55,7 @@ fn short_number(tables: &[u32]) -> u32
 }
 
 // Checks everything, then searches: the number, which is also the first word of the answer.
-#[unsafe(no_mangle)]
-pub extern "C" fn kiosk_solve(
+pub fn kiosk_solve(
     tables: &[u32],
     words: &mut [u32],
     marks: &mut [u64],
@@ -87,8 +84,7 @@ pub extern "C" fn kiosk_solve(
 }
 
 // The same, for tables that `kiosk_check` answered with 0.
-#[unsafe(no_mangle)]
-pub extern "C" fn kiosk_solve_checked(
+pub fn kiosk_solve_checked(
     tables: &[u32],
     words: &mut [u32],
     marks: &mut [u64],
