@@ -1,4 +1,6 @@
 // Reads stop_times.txt into its table and the books of stops and trips.
+#![tactic(auto)]
+
 ghost use Rattle.std.specs.Prelude.{◌≡◌, ◌+◌, ◌*◌, ◌≤◌, length, drop};
 ghost use Rattle.csv_text.specs.Lines.{lines};
 ghost use Rattle.names.specs.Book.{Book};

@@ -1,5 +1,7 @@
 // What the writers of rows share: how they answer, tests of both kinds of rows, a text at the beginning, and cells with the
 // byte behind them.
+#![tactic(auto)]
+
 ghost use Rattle.std.specs.Prelude.{◌≡◌, true, ◌++◌, ◌+◌, ◌≤◌, ◌<◌, length};
 ghost use Rattle.base.specs.Put.{with_bytes};
 ghost use Rattle.numbers.specs.Decimal.{digits};

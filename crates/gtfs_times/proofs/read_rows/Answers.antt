@@ -1,0 +1,51 @@
+-- `gtfs_times::read_rows` meets its contract: the rows that stand and what is left say what all of them are.
+-- Assumes nothing.
+use borrow.Author.Rules.{rules}
+use Prim.Native.Nat.{◌+◌, ◌-◌}
+use mathlib.Core.Path.{◌≡◌}
+use lib.ListN.{length, drop}
+use Rattle.csv_text.specs.Lines.{lines}
+use Rattle.feed.specs.Feed.{empty_feed}
+use Rattle.feed.specs.Times.{times_from}
+use Rattle.gtfs_times.proofs.Going.{Going, going_start, going_on, takeable, line_fits}
+use Rattle.gtfs_times.proofs.Going.{form_told, form_left, plan_told, plan_left, full_told, full_left, done_told, done_left}
+use Rattle.gtfs_times.proofs.read_rows.Goals as goal
+
+pub loop-i-init : goal.loop-i-init
+loop-i-init c = (search (rules, going_start), search rules, search rules, search rules)
+
+pub told_bad-requires : goal.told_bad-requires
+told_bad-requires c = search (rules, line_fits)
+
+pub returns-in-Bad-clause-value : goal.returns-in-Bad-clause-value
+returns-in-Bad-clause-value c = search (rules, form_told)
+
+pub returns-in-Bad-clause-times_left : goal.returns-in-Bad-clause-times_left
+returns-in-Bad-clause-times_left c = search (rules, form_left)
+
+pub take-took-requires : goal.take-took-requires
+take-took-requires c = search (rules, takeable)
+
+pub told_bad-requires-in-Bad-took : goal.told_bad-requires-in-Bad-took
+told_bad-requires-in-Bad-took c = search (rules, line_fits)
+
+pub returns-in-Bad-took-clause-value : goal.returns-in-Bad-took-clause-value
+returns-in-Bad-took-clause-value c = search (rules, plan_told)
+
+pub returns-in-Bad-took-clause-times_left : goal.returns-in-Bad-took-clause-times_left
+returns-in-Bad-took-clause-times_left c = search (rules, plan_left)
+
+pub returns-in-Full-clause-value : goal.returns-in-Full-clause-value
+returns-in-Full-clause-value c = search (rules, full_told)
+
+pub returns-in-Full-clause-times_left : goal.returns-in-Full-clause-times_left
+returns-in-Full-clause-times_left c = search (rules, full_left)
+
+pub loop-i-preserved : goal.loop-i-preserved
+loop-i-preserved c = (search (rules, going_on), search rules, search rules, search rules)
+
+pub returns-clause-value : goal.returns-clause-value
+returns-clause-value c = search (rules, done_told)
+
+pub returns-clause-times_left : goal.returns-clause-times_left
+returns-clause-times_left c = search (rules, done_left)
