@@ -177,13 +177,13 @@ module _ (w : List ℕ) where
   framed_so h t = rw (six_so (stop_list w) (stations w) (children w) (route_stops w) (route_trips w) (trip_times w) h) t
 
 -- ---- what a later part asks of an earlier one
-pub trips_passed : (w : List ℕ) {a : Bool} → a ≡ route_trips w → not a ≡ false → route_trips w ≡ true
-trips_passed w {a} e t = sym e ∙ not-false a t
+pub trips_passed : (w : List ℕ) {a : Bool} → a ≡ route_trips w → a ≡ true → route_trips w ≡ true
+trips_passed w e t = sym e ∙ t
 
-pub stops_passed : (w : List ℕ) {a : Bool} → a ≡ framed w → not a ≡ false → route_stops w ≡ true
-stops_passed w {a} e t = (framed_parts w (sym e ∙ not-false a t)).fourth
+pub stops_passed : (w : List ℕ) {a : Bool} → a ≡ framed w → a ≡ true → route_stops w ≡ true
+stops_passed w e t = (framed_parts w (sym e ∙ t)).fourth
 
-pub calls_passed : (w : List ℕ) {a : Bool} → a ≡ stop_routes w → not a ≡ false → calls_hold w ≡ true
+pub calls_passed : (w : List ℕ) {a : Bool} → a ≡ stop_routes w → a ≡ true → calls_hold w ≡ true
 unfolding stop_routes
-calls_passed w {a} e t =
-    and_left (calls_hold w) (calls_rise w) (and_left (calls_hold w && calls_rise w) (calls_all w) (sym e ∙ not-false a t))
+calls_passed w e t =
+    and_left (calls_hold w) (calls_rise w) (and_left (calls_hold w && calls_rise w) (calls_all w) (sym e ∙ t))

@@ -1,4 +1,6 @@
 // Number 2 of the table check: whether every index is in range and every list keeps the listing rules.
+#![tactic(auto)]
+
 ghost use Rattle.std.specs.Prelude.{◌≡◌};
 ghost use Rattle.repository.specs.Laid.{Laid};
 ghost use Rattle.repository.specs.Listed.{framed, well_listed};

@@ -1,0 +1,14 @@
+-- `marked_once`: the words up to i are distinct, and marked.
+use borrow.Author.Rules.{rules}
+use Prim.Native.Nat.{◌-◌}
+use mathlib.Core.Path.{◌≡◌}
+use lib.ListN.{length}
+use Rattle.check_listing.proofs.Marking.{Marking, marking_start, mark_room, marked_twice, left_twice, marking_on}
+use Rattle.check_listing.proofs.Marking.{marked_all, left_all, marks_stand, marks_none}
+use Rattle.check_listing.proofs.once.marked_once.Given as goal
+
+abbrev pub invariant-loop-i : goal.invariant-loop-i
+invariant-loop-i l = Marking l.tables l.k l.a l.b l.initial.marks l.marks l.i × (length l.marks ≡ length l.initial.marks)
+
+abbrev pub decreases-loop-i : goal.decreases-loop-i
+decreases-loop-i l = l.b - l.i
