@@ -1,4 +1,6 @@
 // The footpaths of a round (explorer.rs), of both directions: each is applied as it is found.
+#![tactic(auto)]
+
 ghost use Rattle.std.specs.Prelude.{◌≡◌, ◌<◌, ◌≤◌, get_or};
 ghost use Rattle.model.specs.declared.LegType.TheVariants.{Transfer, Walk};
 ghost use Rattle.model.specs.Limits.{MOST_ROUNDS};

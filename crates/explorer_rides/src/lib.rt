@@ -1,5 +1,7 @@
 // The rides of a round (explorer.rs), of both directions: every route that the round chose is scanned along its positions.
 // A proposal is applied as it is made.
+#![tactic(auto)]
+
 pub mod seat; // seat.rt: a trip is caught, and what it proposes
 pub mod position; // position.rt: what happens at one position
 pub mod route; // route.rt: a route from its mark, one position after the other

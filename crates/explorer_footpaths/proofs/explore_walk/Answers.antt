@@ -1,0 +1,27 @@
+-- `explore_walk`: the row leads to a stop, and takes no more than a day; where it can gain nothing, nothing is done.
+use borrow.Author.Rules.{rules}
+use Rattle.repository.proofs.Ranges.{row_known}
+use Rattle.explorer_footpaths.proofs.Gaining.{path_lost}
+use Rattle.explorer_footpaths.proofs.Paths.{walk_in, walk_most, row_path}
+use Rattle.explorer_footpaths.proofs.explore_walk.Goals as goal
+
+pub walk_to-to-requires : goal.walk_to-to-requires
+walk_to-to-requires c = search (rules, row_known)
+
+pub may_gain-requires-clause-to_lt_stops : goal.may_gain-requires-clause-to_lt_stops
+may_gain-requires-clause-to_lt_stops c = search (rules, walk_in)
+
+pub walk_duration-span-requires : goal.walk_duration-span-requires
+walk_duration-span-requires c = search (rules, row_known)
+
+pub explore_path-requires-clause-to_lt_stops : goal.explore_path-requires-clause-to_lt_stops
+explore_path-requires-clause-to_lt_stops c = search (rules, walk_in)
+
+pub explore_path-requires-clause-span_bound : goal.explore_path-requires-clause-span_bound
+explore_path-requires-clause-span_bound c = search (rules, walk_most)
+
+pub returns-then-may_gain : goal.returns-then-may_gain
+returns-then-may_gain c = record { holds = search (rules, row_path); usable = search rules }
+
+pub returns-else-may_gain : goal.returns-else-may_gain
+returns-else-may_gain c = record { holds = search (rules, path_lost); usable = search rules }

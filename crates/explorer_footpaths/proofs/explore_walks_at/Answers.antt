@@ -1,0 +1,29 @@
+-- `explore_walks_at`: the rows from j on are left, and lead where all of them lead.
+use borrow.Author.Rules.{rules}
+use Prim.Native.Nat.{◌-◌, ◌≤◌}
+use mathlib.Core.Path.{◌≡◌}
+use lib.ListN.{length}
+use Rattle.model.specs.declared.LegType.TheVariants.{Walk}
+use Rattle.model.specs.Tables.{Net}
+use Rattle.repository.specs.NetOf.{walk_row, net_of}
+use Rattle.repository.specs.Rows.{walks, first_row, rest}
+use Rattle.repository.proofs.Lists.{walks_are}
+use Rattle.allocator.specs.Layout.{view}
+use Rattle.allocator.specs.Does.{Usable}
+use Rattle.explorer.specs.Turns.{in_turn, Turn}
+use Rattle.explorer.proofs.Turns.{row_next, row_end}
+use Rattle.explorer_footpaths.specs.Footing.{foot_by}
+use Rattle.explorer_footpaths.proofs.Paths.{path_start, row_here}
+use Rattle.explorer_footpaths.proofs.explore_walks_at.Goals as goal
+
+pub loop-j-init : goal.loop-j-init
+loop-j-init c = (search (rules, path_start, walks_are), search rules, search rules, search rules, search rules)
+
+pub explore_walk-requires-clause-of_stop : goal.explore_walk-requires-clause-of_stop
+explore_walk-requires-clause-of_stop c = search (rules, row_here)
+
+pub loop-j-preserved : goal.loop-j-preserved
+loop-j-preserved c = (search (rules, row_next), search rules, search rules, search rules, search rules)
+
+pub returns : goal.returns
+returns c = record { holds = search (rules, row_end); usable = search rules }
