@@ -1,4 +1,6 @@
 // Of a handheld's legs: whether a ride fits its trip. The tables say which route a trip stands in, so no other is looked at.
+#![tactic(auto)]
+
 ghost use Rattle.std.specs.Prelude.{◌≡◌, ◌<◌, ◌≤◌, ◌+◌};
 ghost use Rattle.repository.specs.Accepted.{Accepted};
 ghost use Rattle.repository.specs.NetOf.{net_of};

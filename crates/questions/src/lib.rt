@@ -1,4 +1,6 @@
 // The query that the arguments of a program are: two places, a direction, a moment and the options. Nothing is read or printed here.
+#![tactic(auto)]
+
 ghost use Rattle.std.specs.Prelude.{◌≡◌, ◌+◌};
 ghost use Rattle.arguments.specs.Moment.{fits};
 ghost use Rattle.questions.specs.Asking.{spot_of, direction_said, walks_for, mode_for, time_for, asks, asks_at, asked_for};

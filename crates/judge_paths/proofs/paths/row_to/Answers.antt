@@ -1,0 +1,16 @@
+-- `row_to`: of the list that is asked for.
+use borrow.Author.Rules.{rules}
+use Rattle.judge_paths.proofs.Rows.{walks_in, walks_row, transfers_in, transfers_row}
+use Rattle.judge_paths.proofs.paths.row_to.Goals as goal
+
+pub walk_to-requires-clause-j_bound : goal.walk_to-requires-clause-j_bound
+walk_to-requires-clause-j_bound c = search (rules, walks_in)
+
+pub returns-then-walk : goal.returns-then-walk
+returns-then-walk c = search (rules, walks_row)
+
+pub transfer_to-requires-clause-j_bound : goal.transfer_to-requires-clause-j_bound
+transfer_to-requires-clause-j_bound c = search (rules, transfers_in)
+
+pub returns : goal.returns
+returns c = search (rules, transfers_row)

@@ -1,0 +1,22 @@
+-- `some_row_fits`: the rows that are left decide.
+use borrow.Author.Rules.{rules}
+use Prim.Native.Nat.{◌-◌}
+use Rattle.repository.specs.NetOf.{net_of}
+use Rattle.repository.specs.Rows.{rest}
+use Rattle.handheld.specs.Any.{any, Sought}
+use Rattle.handheld.specs.Fitting.{fits_foot}
+use Rattle.judge_paths.specs.Paths.{path_row, paths_of}
+use Rattle.judge_paths.proofs.Rows.{rows_start, rows_next, rows_found, rows_none}
+use Rattle.judge_paths.proofs.paths.some_row_fits.Goals as goal
+
+pub loop-j-init : goal.loop-j-init
+loop-j-init c = search (rules, rows_start)
+
+pub returns-then-row_fits : goal.returns-then-row_fits
+returns-then-row_fits c = search (rules, rows_found)
+
+pub loop-j-preserved : goal.loop-j-preserved
+loop-j-preserved c = search (rules, rows_next)
+
+pub returns : goal.returns
+returns c = search (rules, rows_none)

@@ -1,0 +1,16 @@
+-- `fits_trip`: the positions that are left decide; the first that the trip may leave from decides alone.
+use borrow.Author.Rules.{rules}
+use Prim.Native.Nat.{◌-◌}
+use Rattle.model.specs.Lists.{upto}
+use Rattle.repository.specs.NetOf.{net_of}
+use Rattle.handheld.specs.Any.{Sought}
+use Rattle.handheld.specs.Fitting.{fits_from, fits_trip}
+use Rattle.handheld.proofs.Any.{number_none}
+use Rattle.judge_rides.proofs.Riding.{ridable_laid, ridable_at, trip_start, trip_next, trip_here}
+use Rattle.judge_rides.proofs.fits_trip.Given as goal
+
+abbrev pub invariant-loop-b : goal.invariant-loop-b
+invariant-loop-b l = Sought (fits_from (net_of l.tables) l.r l.v l.g) (fits_trip (net_of l.tables) l.r l.v l.g) (upto (l.len - l.b) l.b)
+
+abbrev pub decreases-loop-b : goal.decreases-loop-b
+decreases-loop-b l = l.len - l.b
