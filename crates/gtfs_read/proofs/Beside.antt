@@ -24,7 +24,7 @@ use Rattle.feed.specs.Transfers.{TransferLine, transfer_line, take_transfer, tra
 -- it is no line of stop_times.txt that is bad
 pub data OfTransfers : End → Type 0 where
   all : OfTransfers done
-  bad_line_lem : (k : ℕ) → OfTransfers (bad_transfers k)
+  bad_line : (k : ℕ) → OfTransfers (bad_transfers k)
   no_room : OfTransfers full
 
 -- a name more or none
@@ -70,16 +70,16 @@ from_transfers c room k (l ∷ ls) f = go (λ g. from_transfers c room (suc k) l
 
     go : ((g : Feed) → TransfersOnly g (transfers_from c room (suc k) ls g)) → (o : Option TransferLine)
         → TransfersOnly f (elim o [ none ↦ record { feed = f; end = bad_transfers k } | some x ↦ elim (take_transfer room x f) [ none ↦ record { feed = f; end = full } | some g ↦ transfers_from c room (suc k) ls g ] ])
-    go rest none = record { ends = bad_line_lem k; more = omega arith }
+    go rest none = record { ends = bad_line k; more = omega arith }
     go rest (some x) = next rest x (take_transfer room x f) refl
 
 transfers_only : (room : Room) (ls : List (List ℕ)) (f : Feed) → TransfersOnly f (read_transfers room ls f)
 unfolding read_transfers transfers_under
-transfers_only room [] f = record { ends = bad_line_lem 1; more = omega arith }
+transfers_only room [] f = record { ends = bad_line 1; more = omega arith }
 transfers_only room (h ∷ ls) f = go (if_there (fields h) transfer_columns)
   where
     go : (o : Option TransferColumns) → TransfersOnly f (transfers_under room o ls f)
-    go none = record { ends = bad_line_lem 1; more = omega arith }
+    go none = record { ends = bad_line 1; more = omega arith }
     go (some c) = from_transfers c room 2 ls f
 
 pub of_transfers : (room : Room) (ls : List (List ℕ)) (f : Feed) → OfTransfers (read_transfers room ls f).end
@@ -91,7 +91,7 @@ stops_stay room ls f = (transfers_only room ls f).more
 -- ---- stop_times.txt
 pub data OfTimes : End → Type 0 where
   all : OfTimes done
-  bad_line_lem : (k : ℕ) → OfTimes (bad_times k)
+  bad_line : (k : ℕ) → OfTimes (bad_times k)
   no_room : OfTimes full
 
 -- how it ends, and that it has no transfers
@@ -137,21 +137,21 @@ from_only c room k (l ∷ ls) f q = go (λ g r. from_only c room (suc k) ls g r)
         → TimesOnly f (elim o [ kept g ↦ times_from c room (suc k) ls g x.sequence | bad ↦ record { feed = f; end = bad_times k } | out_of_room ↦ record { feed = f; end = full } ])
     next rest x (kept g) e =
         let r = rest g x.sequence in record { ends = r.ends; same = r.same ∙ take_same room x f g q e }
-    next rest x bad e = record { ends = bad_line_lem k; same = refl }
+    next rest x bad e = record { ends = bad_line k; same = refl }
     next rest x out_of_room e = record { ends = no_room; same = refl }
 
     go : ((g : Feed) (r : ℕ) → TimesOnly g (times_from c room (suc k) ls g r)) → (o : Option TimeLine)
         → TimesOnly f (elim o [ none ↦ record { feed = f; end = bad_times k } | some x ↦ elim (take_time room x f q) [ kept g ↦ times_from c room (suc k) ls g x.sequence | bad ↦ record { feed = f; end = bad_times k } | out_of_room ↦ record { feed = f; end = full } ] ])
-    go rest none = record { ends = bad_line_lem k; same = refl }
+    go rest none = record { ends = bad_line k; same = refl }
     go rest (some x) = next rest x (take_time room x f q) refl
 
 times_only : (room : Room) (ls : List (List ℕ)) → TimesOnly empty_feed (read_times room ls)
 unfolding read_times times_under
-times_only room [] = record { ends = bad_line_lem 1; same = refl }
+times_only room [] = record { ends = bad_line 1; same = refl }
 times_only room (h ∷ ls) = go (if_there (fields h) times_columns)
   where
     go : (o : Option TimesColumns) → TimesOnly empty_feed (times_under room o ls)
-    go none = record { ends = bad_line_lem 1; same = refl }
+    go none = record { ends = bad_line 1; same = refl }
     go (some c) = from_only c room 2 ls empty_feed 0
 
 pub of_times : (room : Room) (ls : List (List ℕ)) → OfTimes (read_times room ls).end

@@ -33,7 +33,8 @@ told_is : (first : TimesTold) (second : TransfersTold) (z : End) → OfTransfers
     → told_under first second (ending_of z) ≡ told_both first second (number_for z) (line_for z) (file_for z)
 unfolding told_under ending_of number_for line_for file_for
 told_is first second done OfTransfers.all = refl
-told_is first second (bad_transfers k) (OfTransfers.bad_line_lem j) = refl
+told_is first second (bad_times _) x'' = elim x'' [ ]
+told_is first second (bad_transfers k) (OfTransfers.bad_line j) = refl
 told_is first second full OfTransfers.no_room = refl
 
 module _ (room : Room) (a b : List ℕ) {first : TimesTold} (f : first ≡ times_told (read_times room (lines (without_mark a)))) where
@@ -48,7 +49,8 @@ module _ (room : Room) (a b : List ℕ) {first : TimesTold} (f : first ≡ times
     where
       go : (z : End) → OfTimes z → ending_of z ≡ Bad k → z ≡ bad_times k
       go done OfTimes.all w = let n : ◌≡◌ {A = ℕ} 0 1 = cc in absurd (omega arith)
-      go (bad_times j) (OfTimes.bad_line_lem j') w = let n : j ≡ k = cc in ap bad_times n
+      go (bad_transfers _) x3 w = elim x3 [ ]
+      go (bad_times j) (OfTimes.bad_line j') w = let n : j ≡ k = cc in ap bad_times n
       go full OfTimes.no_room w = let n : ◌≡◌ {A = ℕ} 0 1 = cc in absurd (omega arith)
 
   is_full : first.ending ≡ Full → (read_times room (lines (without_mark a))).end ≡ full

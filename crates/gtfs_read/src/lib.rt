@@ -1,4 +1,6 @@
 // Reads stop_times.txt and transfers.txt into lent tables: every pair of files and every room is answered.
+#![tactic(auto)]
+
 ghost use Rattle.std.specs.Prelude.{◌≡◌, ◌≤◌};
 ghost use Rattle.gtfs_read.specs.Reads.{lent_feed, rows_of, feed_room, refused_long, told_by, split_of, Left, Reads};
 ghost use Rattle.gtfs_read.specs.Parts.{first_told, told_both, told_of_both, FilesLent};
