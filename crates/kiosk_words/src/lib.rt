@@ -1,4 +1,6 @@
 // A query, an answer and a leg as words: what the C face takes and gives.
+#![tactic(auto)]
+
 ghost use Rattle.std.specs.Prelude.{◌≡◌, ◌∷◌, ◌≤◌, ◌<◌, length, drop};
 ghost use Rattle.model.specs.Answer.{given};
 ghost use Rattle.model.specs.Bytes.{leg_size};

@@ -1,4 +1,6 @@
 // The answer of a search that has run: the journey is measured, and written where it fits.
+#![tactic(auto)]
+
 ghost use Rattle.std.specs.Prelude.{◌≡◌, length};
 ghost use Rattle.model.specs.Answer.{reply as replyOf};
 ghost use Rattle.model.specs.Left.{written};

@@ -1,0 +1,34 @@
+-- `raptor_reply::reply` meets its contract: its three answers.
+use borrow.Author.Rules.{rules}
+use Rattle.raptor_reply.proofs.Replies.{none_chosen, none_written, long_unwritten, chosen_traced, chosen_round, too_long, found, found_written}
+use Rattle.raptor_reply.proofs.reply.Goals as goal
+
+pub returns-then-t-eq0-clause-value : goal.returns-then-t-eq0-clause-value
+returns-then-t-eq0-clause-value c = search (rules, none_chosen)
+
+pub returns-then-t-eq0-clause-journey_after : goal.returns-then-t-eq0-clause-journey_after
+returns-then-t-eq0-clause-journey_after c = search (rules, none_written)
+
+pub size_back-size-requires-clause-traced : goal.size_back-size-requires-clause-traced
+size_back-size-requires-clause-traced c = search (rules, chosen_traced)
+
+pub size_back-size-requires-clause-k_bound : goal.size_back-size-requires-clause-k_bound
+size_back-size-requires-clause-k_bound c = search (rules, chosen_round)
+
+pub returns-then-journey-size-clause-value : goal.returns-then-journey-size-clause-value
+returns-then-journey-size-clause-value c = search (rules, too_long)
+
+pub returns-then-journey-size-clause-journey_after : goal.returns-then-journey-size-clause-journey_after
+returns-then-journey-size-clause-journey_after c = search (rules, long_unwritten)
+
+pub backtrack-requires-clause-traced : goal.backtrack-requires-clause-traced
+backtrack-requires-clause-traced c = search (rules, chosen_traced)
+
+pub backtrack-requires-clause-k_bound : goal.backtrack-requires-clause-k_bound
+backtrack-requires-clause-k_bound c = search (rules, chosen_round)
+
+pub returns-clause-value : goal.returns-clause-value
+returns-clause-value c = search (rules, found)
+
+pub returns-clause-journey_after : goal.returns-clause-journey_after
+returns-clause-journey_after c = search (rules, found_written)
