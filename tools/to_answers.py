@@ -96,7 +96,8 @@ class Function:
             return m[1] + self.steps.get(norm(m[2]), m[2])
 
         text = re.sub(rf"(?<![^\s(){{}};,@\[\]])((?:{'|'.join(map(re.escape, heads))})\.)([A-Za-z_][\w'-]*)", step, text)
-        return re.sub(r"(\.[\w'-]+)?\.(requires|ensures)((?:\.[01]\b)+)", self.clause, text)
+        self.alias = dict(re.findall(r"\blet (\S+) = c\.([\w'-]+) in\b", text))
+        return re.sub(r"([\w'-]+)?\.(requires|ensures)((?:\.[01]\b)+)", self.clause, text)
 
     def clause(self, m):
         """A clause by its name, where it stood by its place among pairs."""
@@ -104,7 +105,7 @@ class Function:
         if m[2] == "requires" or not of:
             lists = self.req(self.fn)
         else:
-            lists = self.ens(of[1:].split("-")[0])
+            lists = self.ens(self.alias.get(of, of).split("-")[0])
         at = m[3].split(".")[1:]
         for names in lists:
             n = len(names)
