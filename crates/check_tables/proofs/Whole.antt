@@ -105,6 +105,7 @@ given (suc (suc (suc (suc zero)))) w (l, k, t, h) =
 given (suc (suc (suc (suc (suc zero))))) w (l, k, t, o, h) =
     number_5 w refl (laid_so l) refl (listed_so l k) refl (timed_so (net_of w) t) refl (ordered_so (net_of w) o) refl
     (not_passed (measured w) (λ u. h (measured_shown w u)))
+given (suc (suc (suc (suc (suc (suc _)))))) w h = elim h [ ]
 
 pub check_is : (k : ℕ) (w : List ℕ) → (check_of w ≡ k) ↔ Says k w
 check_is k w = (λ e. subst (λ (j : ℕ). Says j w) e (said w), λ h. sym (given k w h))

@@ -1,5 +1,7 @@
 // The table check: the lowest of the numbers 1 to 5 that applies, or 0. Each number is tested on tables that have no
 // lower one: the tests for 2 and 5 index freely on laid tables, and those for 3 and 4 on tables that are listed too.
+#![tactic(auto)]
+
 mod distances;
 
 ghost use Rattle.std.specs.Prelude.{◌≡◌};

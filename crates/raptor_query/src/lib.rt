@@ -1,4 +1,6 @@
 // What a query asks: whether it is refused with 7, 8 or 9, and the stops of its areas.
+#![tactic(auto)]
+
 ghost use Rattle.std.specs.Prelude.{◌≡◌, true, ◌++◌, ◌+◌, length};
 ghost use Rattle.model.specs.Places.{exists as existing, barren};
 ghost use Rattle.model.specs.Answer.{may_walk, moment_of, refusal as refusalOf};
