@@ -1,4 +1,6 @@
 // Legs followed one by one, from where one is and when. The bytes are read through a reader (`reader::leg_at`).
+#![tactic(auto)]
+
 ghost use Rattle.std.specs.Prelude.{◌≡◌, ◌≤◌};
 ghost use Rattle.model.specs.Bytes.{read};
 ghost use Rattle.model.specs.Limits.{MOST_ROUNDS};

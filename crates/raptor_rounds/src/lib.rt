@@ -1,4 +1,6 @@
 // The round loop (mod.rs): the search between two lists of stops, equal to the model's.
+#![tactic(auto)]
+
 ghost use Rattle.std.specs.Prelude.{◌≡◌, ◌<◌};
 ghost use Rattle.model.specs.Limits.{MOST_ROUNDS};
 ghost use Rattle.model.specs.Round.{aim, listed};
