@@ -2,7 +2,7 @@
 // its seconds are added to what is asked and taken off what is shown.
 ghost use Rattle.std.specs.Prelude.{◌≡◌, true, ◌+◌};
 ghost use Rattle.arguments.specs.Moment.{fits, sum_of, on_hours, with_seconds, of_clock, of_seconds, has_clock_form, moment_said};
-ghost use Rattle.arguments.specs.Moment.{face as faceOf, clock_of};
+ghost use Rattle.arguments.specs.Moment.{face as face_of, clock_of};
 
 use super::bytes;
 use super::bytes::Number;
@@ -123,7 +123,7 @@ pub struct Clock {
 }
 
 fn face(days: u32, s: u32) -> Clock
-    ensures { result ≡ faceOf days s }
+    ensures { result ≡ face_of days s }
 {
     Clock {
         days: days,

@@ -5,7 +5,7 @@ ghost use Rattle.std.specs.Prelude.{false, ◌≡◌, ◌+◌, ◌≤◌, ◌<�
 ghost use Rattle.csv_text.specs.Part.{part};
 ghost use Rattle.csv_text.specs.Texts.{same_text};
 ghost use Rattle.csv_text.specs.Lines.{line_of, after_line, trimmed};
-ghost use Rattle.csv_text.specs.Fields.{plain, quoted, field as fieldIn};
+ghost use Rattle.csv_text.specs.Fields.{plain, quoted, field as field_in};
 ghost use Rattle.csv_text.specs.Read.{scan_of, Within, LineAt};
 
 // A field of a line: its text stands from `from` up to below `to`, and `next` is where a comma or the line's end follows.
@@ -137,7 +137,7 @@ fn quoted_field(bytes: &[u8], a: usize, e: usize) -> Scanned
 pub fn field(bytes: &[u8], a: usize, e: usize) -> Scanned
     requires a_le_e { a ≤ e }
     requires e_in_bounds { e ≤ length bytes.now }
-    ensures result_value { scan_of bytes.now e result ≡ fieldIn (part a e bytes.now) }
+    ensures result_value { scan_of bytes.now e result ≡ field_in (part a e bytes.now) }
     ensures within { Within bytes.now a e result }
 {
     if a < e {

@@ -8,7 +8,7 @@ ghost use Rattle.repository.specs.Checked.{check_of};
 ghost use Rattle.repository.specs.NetOf.{net_of};
 ghost use Rattle.journey.specs.declared.LegRead.TheVariants.{Whole};
 ghost use Rattle.journey.specs.Reading.{leg_from};
-ghost use Rattle.handheld.specs.Right.{soonest as soonestOf};
+ghost use Rattle.handheld.specs.Right.{soonest as soonest_of};
 ghost use Rattle.handheld.specs.Verdict.{may_begin, may_end, comes_in};
 ghost use Rattle.handheld.specs.Judged.{judged};
 ghost use Rattle.judge.specs.Places.{HasPlaces, verdict_on};
@@ -19,7 +19,7 @@ use model::{Leg, Query, TimeConstraint};
 
 // The moment before which the first leg may not leave: any, where an arrival is asked for.
 fn soonest(time: TimeConstraint) -> u32
-    ensures { result ≡ soonestOf time }
+    ensures { result ≡ soonest_of time }
 {
     match time {
         TimeConstraint::Departure(t) => t.0,

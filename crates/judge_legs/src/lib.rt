@@ -8,7 +8,7 @@ ghost use Rattle.repository.specs.Accepted.{Accepted};
 ghost use Rattle.repository.specs.NetOf.{net_of};
 ghost use Rattle.handheld.specs.Right.{is_ride};
 ghost use Rattle.handheld.specs.Fitting.{fits_leg};
-ghost use Rattle.handheld.specs.Verdict.{rides_with, follows as mayFollow, leg_on};
+ghost use Rattle.handheld.specs.Verdict.{rides_with, follows as may_follow, leg_on};
 ghost use Rattle.judge_legs.specs.Reading.{follow_on};
 
 use handheld::{Led, Onward};
@@ -63,7 +63,7 @@ fn fits_leg(tables: &[u32], walking: bool, g: Leg) -> bool
 fn follows(tables: &[u32], walking: bool, g: Leg, e: Led) -> bool
     requires accepted { Accepted tables.now }
     requires rides_bound { e.rides ≤ MOST_ROUNDS }
-    ensures { result ≡ mayFollow (net_of tables.now) walking g e }
+    ensures { result ≡ may_follow (net_of tables.now) walking g e }
 {
     if g.from == e.stop {
         if e.moment <= g.departure.0 {

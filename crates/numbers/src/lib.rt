@@ -4,7 +4,7 @@
 ghost use Rattle.std.specs.Prelude.{◌≡◌, ◌∷◌, ◌+◌, ◌*◌, ◌≤◌, ◌<◌, length, get_or};
 ghost use Rattle.csv_text.specs.Part.{part};
 ghost use Rattle.base.specs.Put.{with_bytes};
-ghost use Rattle.numbers.specs.Decimal.{decimal as decimalOf, digits};
+ghost use Rattle.numbers.specs.Decimal.{decimal as decimal_of, digits};
 ghost use Rattle.numbers.specs.Clock.{MIDNIGHT, up_to, eight_bytes, clock as clock_of, two_digits, clock_text};
 ghost use Rattle.numbers.specs.Told.{told_number};
 
@@ -27,7 +27,7 @@ fn byte(bytes: &[u8], i: usize) -> u64
 pub fn decimal(bytes: &[u8], a: usize, e: usize) -> Number
     requires a_le_e { a ≤ e }
     requires e_in_bounds { e ≤ length bytes.now }
-    ensures { result ≡ told_number (decimalOf (part a e bytes.now)) }
+    ensures { result ≡ told_number (decimal_of (part a e bytes.now)) }
 {
     if e <= a {
         return Number::Nothing;

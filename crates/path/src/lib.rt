@@ -5,7 +5,7 @@
 
 ghost use Rattle.std.specs.Prelude.{◌++◌, ◌≡◌, ◌≤◌, ◌<◌, length, drop};
 ghost use Rattle.model.specs.Limits.{MOST_ROUNDS};
-ghost use Rattle.model.specs.Back.{near as nearSide, back, in_order};
+ghost use Rattle.model.specs.Back.{near as near_side, back, in_order};
 ghost use Rattle.model.specs.Bytes.{write, size_of};
 ghost use Rattle.allocator.specs.Layout.{Words, parents_of};
 ghost use Rattle.path.specs.Step.{lowers, step_of};
@@ -25,7 +25,7 @@ pub enum Step {
 
 // The side of a leg that the search knew before.
 fn near(d: Direction, g: Leg) -> u32
-    ensures { result ≡ nearSide d g }
+    ensures { result ≡ near_side d g }
 {
     match d {
         Direction::Departure => g.from,

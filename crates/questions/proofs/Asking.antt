@@ -15,7 +15,7 @@ use Rattle.model.specs.declared.Mode.{Mode}
 use Rattle.model.specs.declared.Mode.TheVariants.{Source, Rescan}
 use Rattle.arguments.specs.declared.options.Options.{Options}
 use Rattle.arguments.specs.declared.moment.Moment.{Moment}
-use Rattle.arguments.specs.declared.moment.Moment.TheVariants.{At as atMoment, NoForm, NoMinutes, TooLarge as LateMoment}
+use Rattle.arguments.specs.declared.moment.Moment.TheVariants.{At as at_moment, NoForm, NoMinutes, TooLarge as LateMoment}
 use Rattle.arguments.specs.declared.place.Place.{Place}
 use Rattle.arguments.specs.declared.place.Place.TheVariants.{Stop, Area}
 use Rattle.arguments.specs.Word.{same}
@@ -23,7 +23,7 @@ use Rattle.questions.specs.declared.Spot.TheVariants.{At}
 use Rattle.questions.specs.declared.Direction.{Direction}
 use Rattle.questions.specs.declared.Direction.TheVariants.{Departure, Arrival, Bad as BadDirection}
 use Rattle.questions.specs.declared.Constraint.{Constraint}
-use Rattle.questions.specs.declared.Constraint.TheVariants.{At as atTime, Bad as BadTime}
+use Rattle.questions.specs.declared.Constraint.TheVariants.{At as at_time, Bad as BadTime}
 use Rattle.questions.specs.declared.Question.{Question}
 use Rattle.questions.specs.declared.Asked.{Asked}
 use Rattle.questions.specs.declared.Asked.TheVariants.{Question as asked, Bad as BadAsked}
@@ -73,11 +73,11 @@ module _ (said : ℕ) where
   mode_source_lem h = rw (ne_eqb said 2 h)
 
 module _ {d : Direction} (t : ℕ) where
-  pub time_departs : d ≡ Departure → atTime (departure (record { 0 = t })) ≡ time_for d t
+  pub time_departs : d ≡ Departure → at_time (departure (record { 0 = t })) ≡ time_for d t
   unfolding time_for
   time_departs e = rw e
 
-  pub time_arrives : d ≡ Arrival → atTime (arrival (record { 0 = t })) ≡ time_for d t
+  pub time_arrives : d ≡ Arrival → at_time (arrival (record { 0 = t })) ≡ time_for d t
   unfolding time_for
   time_arrives e = rw e
 
@@ -94,7 +94,7 @@ module _ (from to : Location) (o : Options) where
   asks_it c e f = rw (← e, ← f)
 
   module _ (d : Direction) (t : ℕ) {x : Constraint} (e : x ≡ time_for d t) where
-    pub asks_then : {c : TimeConstraint} {r : Question} → x ≡ atTime c → r ≡ asks from to c o → asked r ≡ asks_at from to (time_for d t) o
+    pub asks_then : {c : TimeConstraint} {r : Question} → x ≡ at_time c → r ≡ asks from to c o → asked r ≡ asks_at from to (time_for d t) o
     unfolding asks_at
     asks_then f g = rw (← e, f, g)
 
@@ -103,7 +103,7 @@ module _ (from to : Location) (o : Options) where
     asks_never f = rw (← e, f)
 
   module _ (d : Direction) {x y : Moment} (e : x ≡ y) where
-    pub asked_then : {t : ℕ} {r : Asked} → x ≡ atMoment t → r ≡ asks_at from to (time_for d t) o → r ≡ asked_for from to d y o
+    pub asked_then : {t : ℕ} {r : Asked} → x ≡ at_moment t → r ≡ asks_at from to (time_for d t) o → r ≡ asked_for from to d y o
     unfolding asked_for
     asked_then f g = rw (← e, f) g
 

@@ -10,7 +10,7 @@ use Rattle.model.specs.declared.Mode.{Mode}
 use Rattle.model.specs.declared.Mode.TheVariants.{Source, Rescan}
 use Rattle.arguments.specs.declared.options.Options.{Options}
 use Rattle.arguments.specs.declared.moment.Moment.{Moment}
-use Rattle.arguments.specs.declared.moment.Moment.TheVariants.{At as atMoment, NoForm, NoMinutes, TooLarge as LateMoment}
+use Rattle.arguments.specs.declared.moment.Moment.TheVariants.{At as at_moment, NoForm, NoMinutes, TooLarge as LateMoment}
 use Rattle.arguments.specs.declared.place.Place.{Place}
 use Rattle.arguments.specs.declared.place.Place.TheVariants.{Stop, Area, Nothing, TooLarge}
 use Rattle.arguments.specs.Word.{same}
@@ -19,7 +19,7 @@ use Rattle.questions.specs.declared.Spot.TheVariants.{At, Bad}
 use Rattle.questions.specs.declared.Direction.{Direction}
 use Rattle.questions.specs.declared.Direction.TheVariants.{Departure, Arrival, Bad as BadDirection}
 use Rattle.questions.specs.declared.Constraint.{Constraint}
-use Rattle.questions.specs.declared.Constraint.TheVariants.{At as atTime, Bad as BadTime}
+use Rattle.questions.specs.declared.Constraint.TheVariants.{At as at_time, Bad as BadTime}
 use Rattle.questions.specs.declared.Question.{Question}
 use Rattle.questions.specs.declared.Asked.{Asked}
 use Rattle.questions.specs.declared.Asked.TheVariants.{Question as asked, Bad as BadAsked}
@@ -50,8 +50,8 @@ mode_for said = cond (eqb said 2) Rescan Source
 
 -- "an earliest departure or a latest arrival"
 unfoldable pub time_for : Direction → ℕ → Constraint
-time_for Departure t = atTime (departure (record { 0 = t }))
-time_for Arrival t = atTime (arrival (record { 0 = t }))
+time_for Departure t = at_time (departure (record { 0 = t }))
+time_for Arrival t = at_time (arrival (record { 0 = t }))
 time_for BadDirection t = BadTime
 
 unfoldable pub asks : Location → Location → TimeConstraint → Options → Question
@@ -64,12 +64,12 @@ asks from to c o =
     }
 
 unfoldable pub asks_at : Location → Location → Constraint → Options → Asked
-asks_at from to (atTime c) o = asked (asks from to c o)
+asks_at from to (at_time c) o = asked (asks from to c o)
 asks_at from to BadTime o = BadAsked
 
 -- what is asked at a moment, where it is one
 unfoldable pub asked_for : Location → Location → Direction → Moment → Options → Asked
-asked_for from to d (atMoment t) o = asks_at from to (time_for d t) o
+asked_for from to d (at_moment t) o = asks_at from to (time_for d t) o
 asked_for from to d NoForm o = BadAsked
 asked_for from to d NoMinutes o = BadAsked
 asked_for from to d LateMoment o = BadAsked

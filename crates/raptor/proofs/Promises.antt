@@ -29,7 +29,7 @@ use Rattle.model.specs.Work.{Work, work_of, SameTimes}
 use Rattle.model.specs.Places.{place_stops}
 use Rattle.model.specs.Answer.{may_walk, task_of, refusal, lowest, searched, legs_by, legs_of, reply_to, reply, unless, answer, Given, given, answer_of, ran}
 use Rattle.model.specs.Left.{Workspace, workspace_of, written, journey_left}
-use Rattle.model.specs.Bytes.{legs as readAs, write, read, size_of, Fits}
+use Rattle.model.specs.Bytes.{legs as read_as, write, read, size_of, Fits}
 use Rattle.model.specs.Round.{Order, Fair, listed}
 use Rattle.model.specs.Search.{search}
 use Rattle.model.specs.Back.{trace, journey}
@@ -305,7 +305,7 @@ module _ (w : List ℕ) (q : Query) (before : Lent) {r : Answer} {after : Lent} 
         is_found.chosen
 
     -- .. and they are read as its legs
-    pub reads_back : read (take z after.journey) ≡ readAs (legs_of (net_of w) q)
+    pub reads_back : read (take z after.journey) ≡ read_as (legs_of (net_of w) q)
     reads_back = ap read journey_bytes ∙ read_write (legs_of (net_of w) q) legs_fit
 
     -- the chosen stop is a stop of the place that is searched for, and the round is one of the 15

@@ -3,7 +3,7 @@
 
 ghost use Rattle.std.specs.Prelude.{◌≡◌, true, ◌++◌, ◌+◌, length};
 ghost use Rattle.model.specs.Places.{exists as existing, barren};
-ghost use Rattle.model.specs.Answer.{may_walk, moment_of, refusal as refusalOf};
+ghost use Rattle.model.specs.Answer.{may_walk, moment_of, refusal as refusal_of};
 ghost use Rattle.model.specs.Left.{placed};
 ghost use Rattle.repository.specs.Accepted.{Accepted};
 ghost use Rattle.repository.specs.NetOf.{net_of};
@@ -70,7 +70,7 @@ pub fn may_walk(walks: Walks) -> bool
 // The lowest of 7, 8 and 9 that applies, 0 where none does.
 pub fn refusal(tables: &[u32], q: Query) -> u32
     requires { Accepted tables.now }
-    ensures { result ≡ refusalOf (net_of tables.now) q }
+    ensures { result ≡ refusal_of (net_of tables.now) q }
 {
     let from = q.from;
     let to = q.to;

@@ -2,7 +2,7 @@
 #![tactic(auto)]
 
 ghost use Rattle.std.specs.Prelude.{◌≡◌, length};
-ghost use Rattle.model.specs.Answer.{reply as replyOf};
+ghost use Rattle.model.specs.Answer.{reply as reply_of};
 ghost use Rattle.model.specs.Left.{written};
 ghost use Rattle.allocator.specs.Layout.{Words, parents_of};
 ghost use Rattle.raptor_reply.specs.Chosen.{Chosen, legs_back};
@@ -22,7 +22,7 @@ pub fn reply(
     requires words { Words stops routes words.now }
     requires chosen { Chosen d stops (parents_of stops routes words.now) aimed }
     ensures value { result
-        ≡ replyOf (length journey.old) aimed (legs_back d stops (parents_of stops routes words.now) aimed) }
+        ≡ reply_of (length journey.old) aimed (legs_back d stops (parents_of stops routes words.now) aimed) }
     ensures journey_after { journey.new
         ≡ written result (legs_back d stops (parents_of stops routes words.now) aimed) journey.old }
 {

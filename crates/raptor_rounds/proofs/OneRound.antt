@@ -15,7 +15,7 @@ use Rattle.model.specs.Limits.{MOST_ROUNDS}
 use Rattle.model.specs.Lists.{any_of, set_in}
 use Rattle.model.specs.State.{Task, task, Labels, Times, State}
 use Rattle.model.specs.Work.{Work, work_of, state_of}
-use Rattle.model.specs.Round.{aim, listed, picks, opened, ridden, footed, aimed as aimedTimes, round_times, round, ride_half, ridden_parents}
+use Rattle.model.specs.Round.{aim, listed, picks, opened, ridden, footed, aimed as aimed_times, round_times, round, ride_half, ridden_parents}
 use Rattle.model.specs.Search.{begun, ended, search}
 use Rattle.model.specs.Sound.{Sound, Asked}
 use Rattle.model.proofs.Orders.{listed_fair}
@@ -48,7 +48,7 @@ module _ (n : Net) (d : Direction) (mode : Mode) (walking : Bool) (ss gs : List 
 
     aimed_is : (round n (task d mode walking ss gs t) listed k (state_of w aimed)).times.target
         ≡ aim d k (work_of (round n (task d mode walking ss gs t) listed k (state_of w aimed))).labels.best gs aimed
-    unfolding round round_times aimedTimes footed ridden opened
+    unfolding round round_times aimed_times footed ridden opened
     aimed_is = refl
 
     pub round_state : {u : Work} {aimed' : Target} → u ≡ round_work d mode walking n k aimed.time.0 w → aimed' ≡ aim d k u.labels.best gs aimed

@@ -4,7 +4,7 @@
 ghost use Rattle.std.specs.Prelude.{◌≡◌, ◌<◌};
 ghost use Rattle.model.specs.Limits.{MOST_ROUNDS};
 ghost use Rattle.model.specs.Round.{aim, listed};
-ghost use Rattle.model.specs.Search.{search as searchOf};
+ghost use Rattle.model.specs.Search.{search as search_of};
 ghost use Rattle.model.specs.Work.{state_of};
 ghost use Rattle.repository.specs.NetOf.{net_of};
 ghost use Rattle.allocator.specs.Layout.{Words, Sized, view, best_of};
@@ -219,7 +219,7 @@ fn rounds(
 ) -> Target
     requires { Begun tables.now a starts.now goals.now words.old marks.old }
     ensures result_after { state_of (view a.stops a.routes words.new marks.new) result
-        ≡ searchOf (net_of tables.now) (task_between a starts.now goals.now) listed }
+        ≡ search_of (net_of tables.now) (task_between a starts.now goals.now) listed }
     ensures usable { Usable a.stops a.routes words.new marks.new }
 {
     let mut aimed = Target {
@@ -259,7 +259,7 @@ pub fn search(
     requires below_2 { Below a.stops goals.now }
     requires moment_nonzero { 0 < a.moment.0 }
     ensures result_after { state_of (view a.stops a.routes words.new marks.new) result
-        ≡ searchOf (net_of tables.now) (task_between a starts.now goals.now) listed }
+        ≡ search_of (net_of tables.now) (task_between a starts.now goals.now) listed }
     ensures usable { Usable a.stops a.routes words.new marks.new }
 {
     let stops = a.stops;

@@ -35,7 +35,7 @@ use Rattle.model.specs.Bytes.{leg_size, size_of}
 use Rattle.model.specs.Places.{exists, or_itself, stops_of_stop, served_of, stops_of_area, place_stops, unserved, barren}
 use Rattle.model.specs.Answer.{may_walk, moment_of, task_by, task_of, refusal, lowest, searched, reply_to, reply, unless}
 use Rattle.model.proofs.Examples.{net, no_route, no_trip, among, serving, N_with}
-use Rattle.model.proofs.Examples.{N as listedN}
+use Rattle.model.proofs.Examples.{N as listed_N}
 use Rattle.repository.specs.Sections.{size, sec}
 use Rattle.repository.specs.NetOf.{count, list_of, transfer_row, walk_row, station_of, net_of}
 use Rattle.check_tables.proofs.Examples.{N, N9}
@@ -45,8 +45,8 @@ use Rattle.raptor.specs.Lent.{lent}
 use Rattle.raptor.specs.Solved.{places_room, room_for, sized}
 
 -- the accepted words of N are the network of document 01's worked answers
-pub N_alike : Alike (net_of N) listedN
-unfolding net_of count list_of sec size tab transfer_row walk_row station_of transfer_span walk_span listedN N_with net no_route no_trip among serving
+pub N_alike : Alike (net_of N) listed_N
+unfolding net_of count list_of sec size tab transfer_row walk_row station_of transfer_span walk_span listed_N N_with net no_route no_trip among serving
 N_alike = record {
   stops = refl;
   routes = refl;

@@ -20,7 +20,7 @@ use Rattle.model.specs.Back.{trace}
 use Rattle.model.specs.Journey.{Departing, Dated}
 use Rattle.model.specs.AskedFor.{AskedFor}
 use Rattle.model.specs.Sound.{Sound, SoundPlaces}
-use Rattle.model.proofs.Examples.{N as listedN}
+use Rattle.model.proofs.Examples.{N as listed_N}
 use Rattle.model.proofs.Alike.{alike_answered}
 use Rattle.repository.specs.Accepted.{Accepted}
 use Rattle.repository.specs.NetOf.{net_of}
@@ -46,7 +46,7 @@ N_words_places = accepted_sound_places N_accepted
 
 -- `alike_answered`: on N's words every query is answered as on network N as document 01 lists it
 pub N_answered : (q : Query) (fault : ℕ) (fits : Bool) (room : ℕ)
-    → answer fault fits (net_of N) q room ≡ answer fault fits listedN q room
+    → answer fault fits (net_of N) q room ≡ answer fault fits listed_N q room
 N_answered = alike_answered N_alike N_words_sound N_words_places
 
 -- a workspace of the lengths that the words ask for (`roomy` of Computed.antt)
