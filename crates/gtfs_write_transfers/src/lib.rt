@@ -1,5 +1,7 @@
 // Writes transfers as a file: "ids as these numbers, .. columns in GTFS's order". First every row is tested, then the text is
 // measured, and only then is a byte written.
+#![tactic(auto)]
+
 ghost use Rattle.std.specs.Prelude.{◌≡◌, ◌++◌, ◌+◌, ◌≤◌, ◌<◌, length, get_or};
 ghost use Rattle.base.specs.Put.{with_bytes};
 ghost use Rattle.model.specs.Limits.{MOST_TRANSFERS};
