@@ -41,7 +41,7 @@ LESS = {}
 TEXT = "where a text stands: its bytes are said, and that they stand there, not which of its places is told"
 BOOK = "where an id's text stands in its file: the ids are said, each at its number, and that its bytes stand at the place told; all else is fixed"
 OPEN = {
-    "csv::field": TEXT,
+    "csv_text::field": TEXT,
     "columns::pick": TEXT,
     "gtfs_lines::time_line": TEXT,
     "gtfs_lines::transfer_line": TEXT,
@@ -58,7 +58,7 @@ OPEN = {
 }
 # What a law of its own fixes: two results that meet the function's contract are equal by it.
 OWN = {
-    "csv::line": ("csv/proofs/Stepping.antt", "line-once"),
+    "csv_text::line": ("csv_text/proofs/Stepping.antt", "line-once"),
     "gtfs_headers::start": ("gtfs_headers/proofs/Marks.antt", "start-ends"),
     "names::clear": ("names/proofs/Clearing.antt", "empty-unique"),
 }
@@ -292,7 +292,7 @@ The last column: *equation*, where the result and each slice that may be written
 words and marks hold and that they are `Tidy` or `Usable` (nothing stands beside that state): two tidy workspaces of one state are equal word for word.
 `solved-unique`, `ran-unique`
 (`raptor/proofs/Unique.antt`), `faced-unique` (`kiosk_c/proofs/Unique.antt`) and `asked-unique` (`asking/proofs/Unique.antt`), where it is the record
-`Solved`, `Ran`, `Faced` or `Tells`. `part-ends` (`csv/proofs/Parts.antt`), `start-ends` (`gtfs_headers/proofs/Marks.antt`) and `empty-unique`
+`Solved`, `Ran`, `Faced` or `Tells`. `part-ends` (`csv_text/proofs/Parts.antt`), `start-ends` (`gtfs_headers/proofs/Marks.antt`) and `empty-unique`
 (`names/proofs/Clearing.antt`), for one or two functions each. What prints or reads, states less, or is left open stands there with the reason; `tests/functions.py` has the lists,
 function by function, and refuses a name that stands there without need.
 
