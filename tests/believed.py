@@ -2,7 +2,7 @@
 # with their lines; the types that are declared in code; and what those files take from the kit.
 import functools, os, re
 
-from reading import source, text_of, there
+from reading import crates, source, text_of, there
 
 SAYS = {
     "allocator": "where a label, a mark or a parent stands in the workspace, and that nothing stands beside them",
@@ -11,7 +11,7 @@ SAYS = {
     "kiosk_c": "what the C face answers and leaves",
     "kiosk_words": "a query, an answer and a leg as words",
     "columns": "the five fields that are wanted of a line, and where a column stands in a header",
-    "csv": "lines and fields of a file",
+    "csv_text": "lines and fields of a file",
     "feed": "document 02's request 1: what is read of the two files, why a line is refused, what is written",
     "gtfs_c": "what the feed's C face answers and leaves",
     "gtfs_headers": "a header as the code answers with it",
@@ -48,10 +48,16 @@ USE = re.compile(r"^\s*(?:ghost )?(?:pub )?use ([^\s{;]+)\.\{([^}]*)\}", re.M)
 
 
 @functools.cache
+def ours():
+    """The crates of this tree; every other module is the kit's."""
+    return frozenset(crates())
+
+
+@functools.cache
 def file_of(module):
     """The file of a module of ours, or the crate in whose code a type is declared."""
-    found = re.match(r"Rattle·(\w+?)(?:·\w+)?\.(specs|proofs)\.(.+)$", module)
-    if not found:
+    found = re.match(r"Rattle\.(\w+)\.(specs|proofs)\.(.+)$", module)
+    if not found or found.group(1) not in ours():
         return None
     crate, part, rest = found.groups()
     if rest.startswith("declared."):
@@ -72,7 +78,7 @@ def words_of(path, name):
     """The words of a statement, with what the modules around it take."""
     own = source(path, name)
     words = set(re.findall(r"[^\s(){}⌜⌝«»,;\[\]λ]+", " ".join(own[1]) + " " + own[2])) if own else set()
-    return words | {w.lstrip(".") for w in words}
+    return words | {part for w in words for part in w.split(".")}
 
 
 def spoken_of(path, name):
@@ -103,7 +109,7 @@ def under_proofs(statements):
             if isinstance(file, str) and "/proofs/" in file:
                 found.setdefault(file, set()).update(was for now, was in names(braces) if now in words)
         own = source(path, name)
-        bare = set(re.findall(r"(?<![\w.′-])[^\W\d_][\w′⁺-]*", " ".join(own[1]) + " " + own[2]))  # no field of a record
+        bare = set(re.findall(r"(?<![\w.'-])[^\W\d_][\w'⁺-]*", " ".join(own[1]) + " " + own[2]))  # no field of a record
         if bare & defined(path) - {name}:
             found.setdefault(path, set()).update(bare & defined(path) - {name})
         if own[0] == "definition":
@@ -175,6 +181,6 @@ def kit(statements):
     for one in closure(statements):
         if isinstance(one, str):
             for module, braces in used(one):
-                if not module.startswith("Rattle·"):
+                if not re.match(r"Rattle\.(\w+)\.", module) or module.split(".")[1] not in ours():
                     taken.setdefault(module, set()).update(was for now, was in names(braces))
     return "".join(f"- `{m}`: {', '.join(f'`{n}`' for n in sorted(taken[m]))}\n" for m in sorted(taken))

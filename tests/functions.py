@@ -7,7 +7,7 @@ import glob, os, re, sys
 sys.dont_write_bytecode = True  # no folder of compiled scripts in the tree
 from reading import HERE, crates, every_function, source, text_of
 
-# What prints or reads: where the words come from or go to is in no contract of the kit's `io` and `os`, so the tests compare it.
+# What prints or reads: where the words come from or go to is in no contract of the kit's library, so the tests compare it.
 PRINTS = "prints"
 READS = "reads its arguments, its input or a file"
 OUTSIDE = {
@@ -41,7 +41,7 @@ LESS = {}
 TEXT = "where a text stands: its bytes are said, and that they stand there, not which of its places is told"
 BOOK = "where an id's text stands in its file: the ids are said, each at its number, and that its bytes stand at the place told; all else is fixed"
 OPEN = {
-    "csv::field": TEXT,
+    "csv_text::field": TEXT,
     "columns::pick": TEXT,
     "gtfs_lines::time_line": TEXT,
     "gtfs_lines::transfer_line": TEXT,
@@ -58,19 +58,19 @@ OPEN = {
 }
 # What a law of its own fixes: two results that meet the function's contract are equal by it.
 OWN = {
-    "csv::line": ("csv/proofs/Stepping.antt", "line-once"),
-    "gtfs_headers::start": ("gtfs_headers/proofs/Marks.antt", "start-ends"),
-    "names::clear": ("names/proofs/Clearing.antt", "empty-unique"),
+    "csv_text::line": ("csv_text/proofs/Stepping.antt", "line_once"),
+    "gtfs_headers::start": ("gtfs_headers/proofs/Marks.antt", "start_ends"),
+    "names::clear": ("names/proofs/Clearing.antt", "empty_unique"),
 }
 # What fixes the words and marks or the whole where a clause is no equation: a word of the clause, and the law that two things it holds of are equal.
 LAWS = {
-    "Solved": ("raptor/proofs/Unique.antt", "solved-unique"),
-    "Faced": ("kiosk_c/proofs/Unique.antt", "faced-unique"),
-    "Ran": ("raptor/proofs/Unique.antt", "ran-unique"),
-    "Tells": ("asking/proofs/Unique.antt", "asked-unique"),
-    "Does": ("allocator/proofs/Unique.antt", "does-unique"),
-    "Usable": ("allocator/proofs/Same.antt", "same-words"),
-    "Tidy": ("allocator/proofs/Same.antt", "same-words"),
+    "Solved": ("raptor/proofs/Unique.antt", "solved_unique"),
+    "Faced": ("kiosk_c/proofs/Unique.antt", "faced_unique"),
+    "Ran": ("raptor/proofs/Unique.antt", "ran_unique"),
+    "Tells": ("asking/proofs/Unique.antt", "asked_unique"),
+    "Does": ("allocator/proofs/Unique.antt", "does_unique"),
+    "Usable": ("allocator/proofs/Same.antt", "same_words"),
+    "Tidy": ("allocator/proofs/Same.antt", "same_words"),
 }
 BESIDE = ("Usable", "Tidy")  # nothing stands beside the state: the rest is said by the state itself
 EQUATION = "equation"
@@ -89,19 +89,16 @@ def sides(conjunct):
 
 
 def parts(clause):
-    """The result's name in a clause, and its conjuncts."""
-    found = re.match(r"λ\s*\(?\s*([^\s.:)]+)[^.]*\.\s*(.*)$", clause, re.S)
-    name, body = (found.group(1), found.group(2)) if found else ("_", clause)
-    body = body.strip().removeprefix("⌜").removesuffix("⌝").strip()
+    """The conjuncts of a clause."""
     pieces, depth, start = [], 0, 0
-    for at, c in enumerate(body):
+    for at, c in enumerate(clause):
         depth += (c in "({[⟦") - (c in ")}]⟧")
         if c == "×" and depth == 0:
-            pieces.append(body[start:at])
+            pieces.append(clause[start:at])
             start = at + 1
-    pieces = [p.strip() for p in pieces + [body[start:]]]
+    pieces = [p.strip() for p in pieces + [clause[start:]]]
     pieces = [p[1:-1].strip() if p.startswith("(") and p.endswith(")") and sides(p) is None else p for p in pieces]
-    return name, [re.sub(r"^\(\w+ : ℕ\) → ", "", p) for p in pieces]  # what holds for every number holds for one
+    return [re.sub(r"^\(\w+ : ℕ\) → ", "", p) for p in pieces]  # what holds for every number holds for one
 
 
 def arguments(term):
@@ -116,25 +113,8 @@ def arguments(term):
 
 
 def stated(f):
-    """What the contract states, in its own words but for three names: what is lent is called by its name as it comes and with ′ as it is left, and what is
-    given back is the result."""
-    names, out = re.findall(r"(\w+)\s*:", f.parameters), []
-    if "result" in names:
-        complain(f"{f.path}: {f.where} calls a parameter `result`, the word that docs/FUNCTIONS.md has for what is given back")
-    for clause in f.says:
-        found = re.match(r"λ\s*\(?\s*([^\s.:)]+)[^.]*\.\s*(.*)$", clause, re.S)
-        name, body = (found.group(1), found.group(2)) if found else ("_", clause)
-        body = body.strip().removeprefix("⌜").removesuffix("⌝").strip()
-        for lent in names:
-            own = rf"(?:«{lent}»|{lent})"
-            for state, word in ((" \\.entry", lent), (" \\.exit", lent + "′")):
-                for around in (r"\(now \(@\)\)", r"now \(@\)"):
-                    body = re.sub(around.replace("@", own + state), word, body)
-            body = body.replace(f"«{lent}»", lent)
-        if name != "_":
-            body = re.sub(rf"(?:now )?(?<![\w.«′-]){re.escape(name)}(?![\w′-])", "result", body)
-        out.append("`" + body.replace("|", "\\|") + "`")
-    return "; ".join(out)
+    """What the contract states, in its own words."""
+    return "; ".join("`" + clause.replace("|", "\\|") + "`" for clause in f.says)
 
 
 def fields_of(kind):
@@ -147,9 +127,9 @@ def fields_of(kind):
     return set()
 
 
-def shape_of(what, name):
-    """How a clause speaks of a thing lent, or, where `what` is empty, of the result that it calls `name`."""
-    return r"(?<![\w.«-])" + (rf"(?:«{what}»|{what}) \.exit" if what else re.escape(name)) + r"(?![\w-])"
+def shape_of(what):
+    """How a clause speaks of a thing lent as it is left, or, where `what` is empty, of the result."""
+    return r"(?<![\w.«-])" + (rf"(?:«{what}»|{what})\.new" if what else "result") + r"(?![\w'-])"
 
 
 def fixed_by(f, what):
@@ -157,33 +137,30 @@ def fixed_by(f, what):
     spoken of and not fixed."""
     spoken, laws, fields, rests, state = False, [], set(), set(), False
     others = [w for w in ([""] if f.result else []) + f.lent() if w != what]
+    shape = shape_of(what)
     for clause in f.says:
-        name, conjuncts = parts(clause)
-        if not what and name == "_":
-            continue
-        shape = shape_of(what, name)
-        for c in (c for c in conjuncts if re.search(shape, c)):
+        for c in (c for c in parts(clause) if re.search(shape, c)):
             spoken = True
             for law in (w for w in LAWS if re.search(rf"(?<![\w-]){w}(?![\w-])", c) and source(*LAWS[w])):
-                told = " ".join(a for a in arguments(c) if not re.fullmatch(r"\(now \(\S+ \.exit\)\)", a))
+                told = " ".join(a for a in arguments(c) if not re.fullmatch(r"\S+\.new", a))
                 if law == "Does" and re.search(shape, told):
                     continue  # the operation is told by what it leaves
                 laws.append(law)
                 if law == "Does":  # what the operation is must itself be fixed: all of it but the words and marks that it leaves
-                    rests |= {w for w in others if (w or name != "_") and re.search(shape_of(w, name), told)}
+                    rests |= {w for w in others if re.search(shape_of(w), told)}
             both = sides(c)
             for side, other in (both, both[::-1]) if both else ():
                 side = side[1:-1] if side.startswith("(") and side.endswith(")") else side
                 if re.search(shape, other):
                     continue  # it is told by itself
-                on = {w for w in others if (w or name != "_") and re.search(shape_of(w, name), other)}
-                if re.fullmatch(rf"now \({shape}\)" if what else rf"(?:now )?{shape}", side):
+                on = {w for w in others if re.search(shape_of(w), other)}
+                if re.fullmatch(rf"{shape}(?:\.now)?", side):
                     return EQUATION, on
-                field = re.fullmatch(rf"{shape} \.(\w+)", side) if not what else None
+                field = re.fullmatch(rf"{shape}\.(\w+)", side) if not what else None
                 if field:
                     fields.add(field.group(1))
                     rests |= on
-                state = state or bool(re.match(r"(view|stateOf \(view) ", side) and re.search(shape, side))
+                state = state or bool(re.match(r"(view|state_of \(view) ", side) and re.search(shape, side))
     if fields and fields >= fields_of(f.result):
         return EQUATION, rests
     if laws and laws[0] not in BESIDE:
@@ -215,7 +192,7 @@ def outside():
     for crate, own in FUNCTIONS.items():
         below = [crate] + NEEDS[crate]
         for f in own:
-            if re.search(r"\b(?:io|os|libc)::\w+\(", f.body):
+            if re.search(r"\b(?:io|fs|env)::|\brt\b", f.parameters + f.result + f.body):
                 found.add((crate, f.name))
             reach[crate, f.name] = {(c, n) for n in re.findall(r"(\w+)\(", f.body) for c in below}
     while True:
@@ -283,16 +260,16 @@ it asks of its caller (`requires`), what it states of its result and of everythi
 [README.md](../README.md) leads to the other pages. The functions that other programs call, `raptor` and `kiosk_c`, ask for nothing, but for the forms named `_checked`, which ask for tables that were
 checked.
 
-What is stated is the contract's own text. Only three things are written shorter: a slice is called by its name as it comes (`words` for
-`now (words .entry)`) and with ′ as it is left (`words′` for `now (words .exit)`), and what is given back is the `result`. The definitions named stand in
+What is stated is the contract's own text. A slice that may be written is `words.old` as it comes and `words.new` as it is left, one that is only read is
+`tables.now`, and what is given back is the `result`. The definitions named stand in
 `crates/NAME/specs`; those that the promises rest on are copied in [STATEMENTS.md](STATEMENTS.md).
 
 The last column: *equation*, where the result and each slice that may be written is said to be equal to something; then two results are equal at once.
-`does-unique` (`allocator/proofs/Unique.antt`), where it is the record `Does`; `same-words` (`allocator/proofs/Same.antt`), where it says the state that
+`does_unique` (`allocator/proofs/Unique.antt`), where it is the record `Does`; `same_words` (`allocator/proofs/Same.antt`), where it says the state that
 words and marks hold and that they are `Tidy` or `Usable` (nothing stands beside that state): two tidy workspaces of one state are equal word for word.
-`solved-unique`, `ran-unique`
-(`raptor/proofs/Unique.antt`), `faced-unique` (`kiosk_c/proofs/Unique.antt`) and `asked-unique` (`asking/proofs/Unique.antt`), where it is the record
-`Solved`, `Ran`, `Faced` or `Tells`. `part-ends` (`csv/proofs/Parts.antt`), `start-ends` (`gtfs_headers/proofs/Marks.antt`) and `empty-unique`
+`solved_unique`, `ran_unique`
+(`raptor/proofs/Unique.antt`), `faced_unique` (`kiosk_c/proofs/Unique.antt`) and `asked_unique` (`asking/proofs/Unique.antt`), where it is the record
+`Solved`, `Ran`, `Faced` or `Tells`. `part_ends` (`csv_text/proofs/Parts.antt`), `start_ends` (`gtfs_headers/proofs/Marks.antt`) and `empty_unique`
 (`names/proofs/Clearing.antt`), for one or two functions each. What prints or reads, states less, or is left open stands there with the reason; `tests/functions.py` has the lists,
 function by function, and refuses a name that stands there without need.
 

@@ -17,8 +17,12 @@ TWICE = {
 }
 # A law or a definition that nothing reaches, and why it stays.
 ALONE = {}
-NAME = r"[^\s(){}⌜⌝«»,;:\[\]λ.]+"
-TOKEN = re.compile(r"[^\W\d_·][\w′⁺₀-₉ᴰ·-]*")
+NAME = r"[^\s(){}«»,;:\[\]λ.]+"
+TOKEN = re.compile(r"[^\W\d_][\w'⁺₀-₉ᴰ-]*")
+OURS = "|".join(crates())
+# What is written of the proof of one function, in its own folder; and how `#[tactic(..)]` names a law or a definition.
+PROVED = ("Invariants.antt", "Answers.antt", "Proof.antt")
+OF_CRATE = re.compile(r"\bcrate::(proofs|specs)::([\w:]+)::(\w+)")
 wrong = 0
 
 
@@ -107,10 +111,10 @@ for path in files("crates/*/specs/**/*.antt"):
     for one in declared(path)[0]:
         if one.kind == "law" or proves(one):
             complain(f"{path}, line {one.line}", f"{one.name} is a law or a text that stays shut: definitions are records, data, `abbrev` or `unfoldable`")
-    for module in re.findall(r"^\s*(?:pub )?use (\S+?\.proofs\.\S+)", text_of(path), re.M):
+    for module in re.findall(rf"^\s*(?:pub )?use (Rattle\.(?:{OURS})\.proofs\.[^\s{{]+)", text_of(path), re.M):
         complain(path, f"a definition cites a proof: {module}")
 for path in files("crates/*/src/**/*.rt"):
-    for module in re.findall(r"^\s*ghost use (\S+?\.proofs\.[^;]+)", text_of(path), re.M):
+    for module in re.findall(rf"^\s*ghost use (Rattle\.(?:{OURS})\.proofs\.[^;{{]+)", text_of(path), re.M):
         complain(path, f"a contract cites a proof: {module}")
 
 # ==== no wide line of code
@@ -173,11 +177,12 @@ def tokens(text):
 def reached_by(path, text):
     """The laws and definitions that a text of a file speaks of, each as its file and name: those of its own file, and those that it uses."""
     words = tokens(text)
-    own = {(path, name) for name in NAMED.get(path, ()) if name in words or "_" in name and tokens(name.replace("_", " ")) <= words}
+    own = {(path, name) for name in NAMED.get(path, ()) if name in words or "◌" in name and tokens(name.replace("◌", " ")) <= words}
+    own |= {(f"crates/{path.split('/')[1]}/{part}/{module.replace('::', '/')}.antt", name) for part, module, name in OF_CRATE.findall(text)}
     for module, braces in used(path[len("crates/") :]):
         file = file_of(module)
         if isinstance(file, str):
-            own |= {(f"crates/{file}", was) for now, was in names(braces) if now in words or "_" in now}
+            own |= {(f"crates/{file}", was) for now, was in names(braces) if now in words or "◌" in now}
     return own
 
 
@@ -185,7 +190,7 @@ NAMED, LAW, roots = {}, {}, set()
 for path in files("crates/*/proofs/**/*.antt") + files("crates/*/specs/**/*.antt"):
     own, heads = declared(path)
     NAMED[path] = {one.name for one in own}
-    if os.path.basename(path) == "Proof.antt":  # what the prover asks of a function
+    if os.path.basename(path) in PROVED:  # what the prover asks of a function
         roots |= reached_by(path, "\n".join(line for one in own for line in one.own))
         continue
     LAW |= {(path, one.name): one for one in own}

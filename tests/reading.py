@@ -42,7 +42,7 @@ def out(lines):
 def statement(text, name):
     """What a public name of an .antt file is (`theorem`, or `definition`), what the modules around it take, outermost first, and its text: of a theorem
     its type, of a definition all of it. None where the file has no such name."""
-    for found in re.finditer(r"pub (record |data )?" + re.escape(name) + r"(?![\w′-])", text):
+    for found in re.finditer(r"pub (record |data )?" + re.escape(name) + r"(?![\w'-])", text):
         before = text[text.rfind("\n", 0, found.start()) + 1 : found.start()].strip()
         if before in ("", "abbrev", "unfoldable"):
             break
@@ -88,7 +88,7 @@ class Function:
         while True:
             rest = re.compile(r"(?:\s|//[^\n]*\n)*").match(text, at)
             at = rest.end()
-            clause = re.compile(r"([a-z]+)\s*\{").match(text, at)
+            clause = re.compile(r"(requires|ensures|decreases)\b\*?\s*(?:\w+\s*)?\{").match(text, at)
             if text.startswith("->", at):
                 end = re.compile(r"\s*(?:\b(?:requires|ensures|decreases|where)\b|\{|;)").search(text, at)
                 self.result, at = text[at + 2 : end.start()].strip(), end.start()

@@ -19,18 +19,18 @@ LIMITS = os.path.join("crates", "model", "specs", "Limits.antt")
 LIMITS_CODE = os.path.join("crates", "repository", "src", "limits.rt")
 
 # definitions and laws by the place of the section among their arguments, counted from 0
-SECOND = """sec size rows count start Under Starts among unseen distinct indexed inRange under startsSection Entry Part EntryWords listOf
-    markedOn markedBy Fitting room part-room row-room list-room word-in part-in under-shown index-shown distinct-shown under-so index-so
-    distinct-so starting-so starting-shown"""
+SECOND = """sec size rows count start Under Starts among unseen distinct indexed in_range under starts_section Entry Part EntryWords list_of
+    marked_on marked_by Fitting room part_room row_room list_room word_in part_in under_shown index_shown distinct_shown under_so index_so
+    distinct_so starting_so starting_shown"""
 PLACE = {name: 1 for name in SECOND.split()}
-PLACE.update({"JustMarked": 3, "stop-word": 0})
+PLACE.update({"JustMarked": 3, "stop_word": 0})
 # functions whose second argument is a section
 CALLED = """item word size_of entries_of entries rows_of count_of in_range marked_once row_from row_to row_count rows_in listing part size head
     starts_ok"""
 # how a row is reached: a number times its words
 ROW = re.compile(r"\*\s*([2-9])\b")
 TOKEN = re.compile(r"\s+|--[^\n]*|[(){}\[\],;]|[^\s(){}\[\],;]+")
-END = set("≡ ≤ < + - * / % → && || = : ∙ ∷ ≢ ⊎ × in let λ | ↦ ++ ) ] } , ;".split())
+END = set("≡ ≤ < == + - * / % → && || = : ∙ ∷ ≢ ⊎ × in let λ | ↦ ++ ) ] } , ;".split())
 
 
 def argument(tokens, at):
@@ -71,7 +71,7 @@ def in_logic(text):
             place -= 1
     for match in re.finditer(r"\b[kK]\b(?: \+ 1)? [<≤] (1[89]|2[01])\b", text):
         yield match.start(), match[0]
-    for match in re.finditer(r"(?<![\w-])size-\d+", text):
+    for match in re.finditer(r"(?<![\w-])size[-_]\d+", text):
         yield match.start(), match[0]
 
 
@@ -94,16 +94,27 @@ def bare(path, text):
             found += in_logic(text)
             found += [(m.start(), m[0]) for m in ROW.finditer(text) if re.search(r"\b(sec|start|rows|size)\b", line_of(text, m.start()))]
     else:
-        logic = re.compile(r"⌜[^⌝]*⌝")
-        for m in logic.finditer(text):
+        code = text
+        for start, end in clauses(text):
+            clause = text[start:end]
             if reads:
-                found += [(m.start() + at, what) for at, what in in_logic(m[0])]
-                found += [(m.start() + n.start(), n[0]) for n in ROW.finditer(m[0]) if re.search(r"\b(sec|start|rows|size)\b", m[0])]
-        code = logic.sub(lambda m: re.sub(r"[^\n]", " ", m[0]), text)
+                found += [(start + at, what) for at, what in in_logic(clause)]
+                found += [(start + n.start(), n[0]) for n in ROW.finditer(clause) if re.search(r"\b(sec|start|rows|size)\b", clause)]
+            code = code[:start] + re.sub(r"[^\n]", " ", clause) + code[end:]
         found += in_code(code)
         if "repository" in path or "check" in path:
             found += [(m.start(), m[0]) for m in ROW.finditer(code) if re.search(r"\btables\b|let at\b", line_of(code, m.start()))]
     return sorted((text.count("\n", 0, at) + 1, what) for at, what in found)
+
+
+def clauses(text):
+    """Where the clauses of a piece of code stand."""
+    for m in re.finditer(r"\b(?:requires|ensures)\b\*?\s*(?:\w+\s*)?\{", text):
+        deep, end = 1, m.end()
+        while deep and end < len(text):
+            deep += (text[end] == "{") - (text[end] == "}")
+            end += 1
+        yield m.end(), end - 1
 
 
 def line_of(text, at):
@@ -113,10 +124,10 @@ def line_of(text, at):
 def named(specs, code):
     """The names of a file of definitions and of one of constants, with their numbers."""
     with open(os.path.join(TREE, specs), encoding="utf-8") as file:
-        of_specs = {n: int(v) for n, v in re.findall(r"^([A-Z][A-Z-]*) = ([\d_]+)$", file.read(), re.M)}
+        of_specs = {n: int(v) for n, v in re.findall(r"^([A-Z][A-Z_]*) = ([\d_]+)$", file.read(), re.M)}
     with open(os.path.join(TREE, code), encoding="utf-8") as file:
         found = re.findall(r"^pub const ([A-Z_]+): (?:usize|u32) = ([\d_]+);$", file.read(), re.M)
-    return of_specs, {n.replace("_", "-"): int(v) for n, v in found}
+    return of_specs, {n: int(v) for n, v in found}
 
 
 def main():
@@ -130,7 +141,7 @@ def main():
     for name, number in of_specs.items():
         if of_code.get(name) != number:
             faults.append("%s: %s is %d, and in %s %s" % (SPECS, name, number, CODE, of_code.get(name)))
-    sections = [n for n in of_specs if n not in ("SECTIONS", "HEADER") and not n.endswith("-WORDS")]
+    sections = [n for n in of_specs if n not in ("SECTIONS", "HEADER") and not n.endswith("_WORDS")]
     if [of_specs[n] for n in sections] != list(range(len(sections))):
         faults.append("%s: the sections are not numbered in turn" % SPECS)
     if of_specs.get("SECTIONS") != len(sections) or of_specs.get("HEADER") != len(sections) + 1:

@@ -22,7 +22,7 @@ def complain(what, where=PAGE):
 
 def numbers(path):
     """The numbers that a file of definitions names."""
-    return {name: int(value.replace("_", "")) for name, value in re.findall(r"^abbrev pub ([A-Z][A-Z0-9-]*) : ℕ\n\1 = ([0-9_]+)$", text_of(path), re.M)} if there(path) else {}
+    return {name: int(value.replace("_", "")) for name, value in re.findall(r"^abbrev pub ([A-Z][A-Z0-9_]*) : ℕ\n\1 = ([0-9_]+)$", text_of(path), re.M)} if there(path) else {}
 
 
 def rows(title):
@@ -46,22 +46,22 @@ def formula(path, name):
 
 # ==== the sections
 named = numbers(SECTIONS)
-row_of = lambda name: name.removesuffix("-WORDS") if name.removesuffix("-WORDS") in named else name.removesuffix("-WORDS") + "S"
-wide = {row_of(name): value for name, value in named.items() if name.endswith("-WORDS")}
+row_of = lambda name: name.removesuffix("_WORDS") if name.removesuffix("_WORDS") in named else name.removesuffix("_WORDS") + "S"
+wide = {row_of(name): value for name, value in named.items() if name.endswith("_WORDS")}
 count, header = named.get("SECTIONS", 0), named.get("HEADER", 0)
-sections = {value: name for name, value in named.items() if name not in ("SECTIONS", "HEADER") and not name.endswith("-WORDS")}
+sections = {value: name for name, value in named.items() if name not in ("SECTIONS", "HEADER") and not name.endswith("_WORDS")}
 if sorted(sections) != list(range(count)) or not count:
     complain(f"it names no {count} sections, each once", SECTIONS)
 if header != count + 1:
     complain(f"a header of {header} words does not say where {count} sections begin and where they end", SECTIONS)
 laid = text_of(LAID)
-length = {"STOP-LIST": "S", "ROUTE-STOP-STARTS": "R + 1", "TIME-STARTS": "T + 1", "AREA-STARTS": "A + 1"}  # the counts are defined by these
-for name, many in re.findall(r"size w ([A-Z-]+) ≡ (stops w \+ 1|stops w|trips w|trips w \* [A-Z-]+-WORDS|size w [A-Z-]+)$", laid, re.M):
-    if many == f"trips w * {name}-WORDS":
+length = {"STOP_LIST": "S", "ROUTE_STOP_STARTS": "R + 1", "TIME_STARTS": "T + 1", "AREA_STARTS": "A + 1"}  # the counts are defined by these
+for name, many in re.findall(r"size w ([A-Z_]+) ≡ (stops w \+ 1|stops w|trips w|trips w \* [A-Z_]+_WORDS|size w [A-Z_]+)$", laid, re.M):
+    if many == f"trips w * {name}_WORDS":
         length[name] = f"{wide.get(name)} * T"
         continue
     length[name] = {"stops w": "S", "stops w + 1": "S + 1", "trips w": "T"}.get(many) or length.get(many.removeprefix("size w "), "?")
-starts = {k: (of, behind) for k, of, behind in re.findall(r"Starts w ([A-Z-]+) \((\w+)s w\) \((?:size|rows) w ([A-Z-]+)[^)]*\)", laid)}
+starts = {k: (of, behind) for k, of, behind in re.findall(r"Starts w ([A-Z_]+) \((\w+)s w\) \((?:size|rows) w ([A-Z_]+)[^)]*\)", laid)}
 own = rows("The sections")
 for k, name, words, says in own:
     name = bare(name)
@@ -82,7 +82,7 @@ for words in (f"a header of {header} words; then come {count} sections", f"that 
         complain(f"it does not say: {words}")
 
 # ==== the same names in the tools (in code: tests/sections.py)
-if [n.replace("-", " ").lower() for k, n in sorted(sections.items())] != fault.NAMES:
+if [n.replace("_", " ").lower() for k, n in sorted(sections.items())] != fault.NAMES:
     complain(f"its names of the sections are not those of {SECTIONS}", "tools/fault.py")
 if {k: len(c) for k, c in fault.COLUMNS.items()} != {k: wide[n] for k, n in sections.items() if wide.get(n, 1) > 1}:
     complain(f"its rows are not those of {SECTIONS}", "tools/fault.py")
@@ -95,10 +95,10 @@ for name in sorted(set(most) | set(shown)):
         complain(f"{name} is {most.get(name)} in {LIMITS}, and {shown.get(name)} here")
 if not most:
     complain("it names no limit", LIMITS)
-for name, own in (("STOPS", "STOPS"), ("ROUTES", "ROUTES"), ("POSITIONS", "POSITIONS"), ("TRIPS", "TRIPS"), ("TIMES", "STOP-TIMES"), ("TRANSFERS", "TRANSFERS"), ("WALKS", "WALKS"), ("AREAS", "AREAS"), ("ENTRIES", "AREA-ENTRIES")):
-    if getattr(timetable, name) != most.get("MOST-" + own):
-        complain(f"{name} is {getattr(timetable, name)}, and MOST-{own} of {LIMITS} {most.get('MOST-' + own)}", "tools/timetable.py")
-for name, own in (("LAST", "LAST-MOMENT"), ("LONGEST", "LONGEST-SPAN")):
+for name, own in (("STOPS", "STOPS"), ("ROUTES", "ROUTES"), ("POSITIONS", "POSITIONS"), ("TRIPS", "TRIPS"), ("TIMES", "STOP_TIMES"), ("TRANSFERS", "TRANSFERS"), ("WALKS", "WALKS"), ("AREAS", "AREAS"), ("ENTRIES", "AREA_ENTRIES")):
+    if getattr(timetable, name) != most.get("MOST_" + own):
+        complain(f"{name} is {getattr(timetable, name)}, and MOST_{own} of {LIMITS} {most.get('MOST_' + own)}", "tools/timetable.py")
+for name, own in (("LAST", "LAST_MOMENT"), ("LONGEST", "LONGEST_SPAN")):
     if getattr(timetable, name) != most.get(own):
         complain(f"{name} is {getattr(timetable, name)}, and {own} of {LIMITS} {most.get(own)}", "tools/timetable.py")
 
@@ -108,7 +108,7 @@ def parts(path, name):
     return [re.split(r"[ (]", p.strip())[0] for p in formula(path, name).split("&&")]
 
 
-order = re.findall(r"\((\w+) ", formula(CHECKED, "checkOf").replace("cond", "").replace("(netOf w)", "w").replace("( ", "("))
+order = re.findall(r"\((\w+) ", formula(CHECKED, "check_of").replace("cond", "").replace("(net_of w)", "w").replace("( ", "("))
 if len(order) != 5:
     complain(f"the check asks {order}, and five numbers are given back", CHECKED)
 want = [(1, p) for p in parts(LAID, order[0])]

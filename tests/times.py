@@ -8,7 +8,7 @@ PAGE, MOST, FILES = "docs/CHECK-TIMES.md", 25, 2
 # The crates that were there when the rule was made, and may take longer than a new one. The minutes of all bound them.
 OLD = "discovery check_calls check_listing allocator explorer_rides raptor_rounds raptor kiosk_c replay telling querying kiosk".split()
 # The crates that "Read GTFS files directly" brought: by them it added more minutes than a request may.
-FEED = "csv numbers names columns feed gtfs_headers gtfs_lines gtfs_rows gtfs_paths gtfs_times gtfs_transfers gtfs_write gtfs_read gtfs_write_times gtfs_write_transfers gtfs_promises gtfs_c gtfs_telling gtfs_again gtfs".split()
+FEED = "csv_text numbers names columns feed gtfs_headers gtfs_lines gtfs_rows gtfs_paths gtfs_times gtfs_transfers gtfs_write gtfs_read gtfs_write_times gtfs_write_transfers gtfs_promises gtfs_c gtfs_telling gtfs_again gtfs".split()
 # The crates with more files of edits than two: how many, and why. None may have more than is said here.
 MORE = {
     "model": (51, "edits of definitions: every worked network runs the whole search, so a refusal does not tell which of two is meant; a check takes 5 seconds"),
