@@ -1,4 +1,9 @@
 // The words of flat tables from a file: decimal numbers with spaces or line ends between them, and `net` before them or not.
+#![tactic(auto)]
+
+use std::io::Read;
+use std::rt::Files;
+use std::{fs, io};
 
 // What stops the reading.
 const NO_NUMBER: u32 = 1;
@@ -162,87 +167,78 @@ struct Turn {
 }
 
 // Goes on with what one read gives.
-fn read_some(fd: i32, tables: &mut [u32], words: Words) -> Turn {
+fn read_some(file: &mut impl Read, tables: &mut [u32], words: Words) -> Turn {
     let mut block = [0u8; 2048];
-    let got = libc::read(fd, &mut block);
-    if got < 0 {
-        let w = faulty(words, UNREAD);
-        return Turn {
+    match file.read(&mut block) {
+        Ok(0) => Turn {
             more: false,
-            words: w,
-        };
-    }
-    if got == 0 {
-        let w = close(tables, words);
-        return Turn {
+            words: close(tables, words),
+        },
+        Ok(n) => {
+            let w = feed_all(tables, words, &block[..n]);
+            Turn {
+                more: w.fault == 0,
+                words: w,
+            }
+        }
+        Err(_) => Turn {
             more: false,
-            words: w,
-        };
-    }
-    let n = io::count(got, &block);
-    let w = feed_all(tables, words, &block[..n]);
-    Turn {
-        more: w.fault == 0,
-        words: w,
+            words: faulty(words, UNREAD),
+        },
     }
 }
 
-// Reads the whole of an open file. A proved loop has to end, and nothing says that a file does: the turns are counted down from a number
-// that no run uses up.
-fn read_all(fd: i32, tables: &mut [u32]) -> Words {
+// Reads the whole of an open file. A proved loop has to end, and nothing says that a file does: no run uses up so many turns.
+fn read_all(file: &mut impl Read, tables: &mut [u32]) -> Words {
     let mut turn = Turn {
         more: true,
         words: new(),
     };
-    let mut turns = u64::MAX;
-    while turns > 0 {
+    for _ in 0..u64::MAX {
         if !turn.more {
             return turn.words;
         }
-        turn = read_some(fd, tables, turn.words);
-        turns -= 1;
+        turn = read_some(file, tables, turn.words);
     }
     turn.words
 }
 
-// Puts the words of the file into the tables.
-pub fn load(path: &[u8], tables: &mut [u32]) -> Words {
-    let fd = os::open_read(path);
-    if fd < 0 {
+// Puts the words of the file into the tables. A name that is no UTF-8 is that of no file that can be read.
+pub fn load(rt: &impl Files, path: &[u8], tables: &mut [u32]) -> Words {
+    let Ok(name) = str::from_utf8(path) else {
         return faulty(new(), UNREAD);
+    };
+    match fs::open(rt, name) {
+        Ok(mut file) => read_all(&mut file, tables),
+        Err(_) => faulty(new(), UNREAD),
     }
-    let words = read_all(fd, tables);
-    libc::close(fd);
-    words
 }
 
 // Says what stopped the reading.
-pub fn print_fault(path: &[u8], w: Words) {
-    print::text(b"tables: ");
-    print::text(path);
+pub fn print_fault(rt: &impl Print, path: &[u8], w: Words) -> io::Result<()> {
+    print::text(rt, b"tables: ")?;
+    print::text(rt, path)?;
     if w.fault == UNREAD {
-        print::text(b" cannot be read\n");
-        return;
+        return print::text(rt, b" cannot be read\n");
     }
     if w.fault == TOO_MANY {
-        print::text(b" has more than ");
-        print::number(w.count as u64);
-        print::text(
+        print::text(rt, b" has more than ")?;
+        print::number(rt, w.count as u64)?;
+        return print::text(
+            rt,
             b" words, and this program has no room for more: link the library (see README)\n",
         );
-        return;
     }
     if w.fault == TIMETABLE {
-        print::text(
+        return print::text(
+            rt,
             b" has no number first: this looks like a timetable: tools/timetable.py turns it into tables\n",
         );
-        return;
     }
-    print::text(b" has, after ");
-    print::number(w.count as u64);
+    print::text(rt, b" has, after ")?;
+    print::number(rt, w.count as u64)?;
     if w.fault == TOO_LARGE {
-        print::text(b" words, a number above 4294967295\n");
-        return;
+        return print::text(rt, b" words, a number above 4294967295\n");
     }
-    print::text(b" words, something that is no number\n");
+    print::text(rt, b" words, something that is no number\n")
 }

@@ -1,5 +1,10 @@
 // The tables that a program is asked on: those of the file that an argument names, or network N where none does.
+#![tactic(auto)]
+
 mod words; // words.rt: network N, which is built in
+
+use std::io;
+use std::rt::{Env, Files};
 
 // How many words the tables are, and where in the argument the name of their file stands: from `from` to before `to`; nowhere, for network
 // N.
@@ -35,25 +40,32 @@ fn load_built_in(tables: &mut [u32]) -> Loaded {
 }
 
 // The tables of the file that an argument `tables:FILE` names; says what is wrong with them.
-fn load_named(arg: &[u8], tables: &mut [u32]) -> Loaded {
+fn load_named(rt: &(impl Files + Print), arg: &[u8], tables: &mut [u32]) -> io::Result<Loaded> {
     let from = arguments::bytes::after(arg, b"tables:");
-    let words = loading::load(&arg[from..], tables);
+    let words = loading::load(rt, &arg[from..], tables);
     if words.fault != 0 {
-        loading::print_fault(&arg[from..], words);
-        return Loaded::Bad;
+        loading::print_fault(rt, &arg[from..], words)?;
+        return Ok(Loaded::Bad);
     }
-    Loaded::Tables(Ready {
+    Ok(Loaded::Tables(Ready {
         count: words.count,
         from: from,
         to: arg.len(),
-    })
+    }))
 }
 
 // The tables of the file that argument `file` names, which is left in `buffer`; network N for 0.
-pub fn load(buffer: &mut [u8], file: usize, tables: &mut [u32]) -> Loaded {
+pub fn load(
+    rt: &(impl Env + Files + Print),
+    buffer: &mut [u8],
+    file: usize,
+    tables: &mut [u32],
+) -> io::Result<Loaded> {
     if file == 0 {
-        return load_built_in(tables);
+        return Ok(load_built_in(tables));
     }
-    let n = os::arg(file, buffer);
-    load_named(&buffer[..n], tables)
+    match rt.arg(file, buffer) {
+        Ok(n) => load_named(rt, &buffer[..n], tables),
+        Err(_) => load_named(rt, b"", tables),
+    }
 }

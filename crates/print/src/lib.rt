@@ -1,63 +1,57 @@
 // What the programs print of an answer: numbers, legs, and the legs that journey bytes hold.
+#![tactic(auto)]
+
 ghost use Rattle.std.specs.Prelude.{◌≡◌, ◌≤◌};
 ghost use Rattle.model.specs.Bytes.{leg_size};
 
 use journey::LegRead;
-use libc::STDOUT_FILENO;
 use model::{Leg, LegType};
+use std::io;
 
-pub fn text(bytes: &[u8]) {
-    io::write_all(STDOUT_FILENO, bytes);
+pub fn text(rt: &impl Print, bytes: &[u8]) -> io::Result<()> {
+    rt.write_all(bytes)
 }
 
-pub fn number(n: u64) {
-    io::print_decimal(STDOUT_FILENO, n);
+pub fn number(rt: &impl Print, n: u64) -> io::Result<()> {
+    rt.print(n)
 }
 
 // A space, then the number.
-pub fn field(n: u32) {
-    text(b" ");
-    number(n as u64);
+pub fn field(rt: &impl Print, n: u32) -> io::Result<()> {
+    text(rt, b" ")?;
+    number(rt, n as u64)
 }
 
-fn moments(g: Leg) {
-    let departure = g.departure;
-    let arrival = g.arrival;
-    field(departure.0);
-    field(arrival.0);
+fn moments(rt: &impl Print, g: Leg) -> io::Result<()> {
+    field(rt, g.departure.0)?;
+    field(rt, g.arrival.0)
 }
 
-fn stops(g: Leg) {
-    field(g.from);
-    field(g.to);
+fn stops(rt: &impl Print, g: Leg) -> io::Result<()> {
+    field(rt, g.from)?;
+    field(rt, g.to)
 }
 
 // Kind, from, to, the trip of a ride, departure, arrival. A footpath has `none` where a ride has its trip.
-pub fn leg(g: Leg, none: &[u8]) {
-    let kind = g.kind;
-    match kind {
+pub fn leg(rt: &impl Print, g: Leg, none: &[u8]) -> io::Result<()> {
+    match g.kind {
         LegType::Transit(trip) => {
-            text(b"ride");
-            stops(g);
-            field(trip);
-            moments(g);
-            return;
+            text(rt, b"ride")?;
+            stops(rt, g)?;
+            field(rt, trip)?;
         }
         LegType::Transfer => {
-            text(b"transfer");
-            stops(g);
-            text(none);
-            moments(g);
-            return;
+            text(rt, b"transfer")?;
+            stops(rt, g)?;
+            text(rt, none)?;
         }
         LegType::Walk => {
-            text(b"walk");
-            stops(g);
-            text(none);
-            moments(g);
-            return;
+            text(rt, b"walk")?;
+            stops(rt, g)?;
+            text(rt, none)?;
         }
     }
+    moments(rt, g)
 }
 
 // How many bytes a leg takes.
@@ -70,16 +64,22 @@ pub fn size(g: Leg) -> usize
 }
 
 // Each leg of the bytes between `before` and `after`.
-pub fn legs(bytes: &[u8], before: &[u8], none: &[u8], after: &[u8]) {
+pub fn legs(
+    rt: &impl Print,
+    bytes: &[u8],
+    before: &[u8],
+    none: &[u8],
+    after: &[u8],
+) -> io::Result<()> {
     let mut at = 0;
     while at < bytes.len() {
-        let next = journey::read_leg(bytes, at);
-        let LegRead::Whole(g) = next else {
-            return;
+        let LegRead::Whole(g) = journey::read_leg(bytes, at) else {
+            return Ok(());
         };
-        text(before);
-        leg(g, none);
-        text(after);
+        text(rt, before)?;
+        leg(rt, g, none)?;
+        text(rt, after)?;
         at += size(g);
     }
+    Ok(())
 }
