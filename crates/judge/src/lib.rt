@@ -1,5 +1,7 @@
 // Whether the legs that a handheld sent are a journey that the query asks for: a yes or no from tables, query and bytes. Nothing is
 // written, and no workspace is asked for.
+#![tactic(auto)]
+
 ghost use Rattle.std.specs.Prelude.{◌≡◌, true};
 ghost use Rattle.model.specs.Bytes.{read};
 ghost use Rattle.model.specs.Places.{exists};

@@ -1,4 +1,6 @@
 // The line that `checkjourney` prints of a verdict.
+#![tactic(auto)]
+
 ghost use Rattle.std.specs.Prelude.{◌≡◌, ◌∷◌, [], ◌+◌, ◌≤◌, length};
 ghost use Rattle.base.specs.Put.{with_bytes};
 ghost use Rattle.numbers.specs.Decimal.{digits};

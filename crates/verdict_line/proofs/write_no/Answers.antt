@@ -1,0 +1,15 @@
+-- `verdict_line::write_no`: three stores in a row.
+use borrow.Author.Rules.{rules}
+use native.Mathlib.Omega.{arith}
+use lib.ListN.{length-set}
+use Rattle.verdict_line.proofs.Printed.{put_three}
+use Rattle.verdict_line.proofs.write_no.Goals as goal
+
+pub bounds-out-1 : goal.bounds-out-1
+bounds-out-1 c = simp length-set (omega arith)
+
+pub bounds-out-2 : goal.bounds-out-2
+bounds-out-2 c = simp length-set (omega arith)
+
+pub returns : goal.returns
+returns c = search (rules, put_three)
