@@ -1,4 +1,6 @@
 // The entry points (mod.rs): check, room, solve, and solve_checked for tables that were checked before.
+#![tactic(auto)]
+
 mod searching; // searching.rt: a query that nothing refuses is searched
 
 ghost use Rattle.std.specs.Prelude.{◌≡◌, length};
