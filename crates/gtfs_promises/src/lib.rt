@@ -1,1 +1,2 @@
 // What request 1 promises, over the contracts of the reader and the writers alone: no code.
+#![tactic(auto)]
