@@ -1,5 +1,7 @@
 // The feed's C face: the functions that a C or Rust program links to read and write a feed, over numbers and slices alone. A slice is a
 // pointer and a length.
+#![tactic(auto)]
+
 ghost use Rattle.std.specs.Prelude.{◌≡◌, ◌∷◌, [], ◌≤◌, ◌<◌, length};
 ghost use Rattle.base.specs.Put.{with_bytes};
 ghost use Rattle.feed.specs.Rows.{time_rows_in, transfer_rows_in};
