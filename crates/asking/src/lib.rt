@@ -1,4 +1,6 @@
 // What the programs share: a query from the words of a line, and its answer, with the workspace cut from slices that are large enough.
+#![tactic(auto)]
+
 ghost use Rattle.std.specs.Prelude.{◌≡◌};
 ghost use Rattle.asking.specs.Queries.{place_in, when_in, walks_in, mode_in, query_in};
 ghost use Rattle.raptor.specs.Lent.{lent};
