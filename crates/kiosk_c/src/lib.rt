@@ -1,4 +1,6 @@
 // The C face: the functions that a C or Rust program links, over numbers and slices alone. A slice is a pointer and a length.
+#![tactic(auto)]
+
 ghost use Rattle.std.specs.Prelude.{◌≡◌};
 ghost use Rattle.repository.specs.Accepted.{Accepted};
 ghost use Rattle.repository.specs.Checked.{check_of};

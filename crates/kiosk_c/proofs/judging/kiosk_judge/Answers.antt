@@ -1,0 +1,16 @@
+-- `kiosk_judge`: no word for it, or what `judge` says.
+use borrow.Author.Rules.{rules}
+use Rattle.kiosk_c.proofs.Verdicts.{short_judged, short_left, judged_number, judged_left}
+use Rattle.kiosk_c.proofs.judging.kiosk_judge.Goals as goal
+
+pub returns-then-told-lt1-clause-value : goal.returns-then-told-lt1-clause-value
+returns-then-told-lt1-clause-value c = search (rules, short_judged)
+
+pub returns-then-told-lt1-clause-told_after : goal.returns-then-told-lt1-clause-told_after
+returns-then-told-lt1-clause-told_after c = search (rules, short_left)
+
+pub returns-clause-value : goal.returns-clause-value
+returns-clause-value c = search (rules, judged_number)
+
+pub returns-clause-told_after : goal.returns-clause-told_after
+returns-clause-told_after c = search (rules, judged_left)
