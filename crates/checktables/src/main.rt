@@ -1,8 +1,10 @@
 // Reads lines `net w0 w1 ..`, the words of flat tables, and prints for each the number that the check gives them: 0 for accepted tables.
-ghost use Rattle.std.specs.Prelude.{◌≤◌};
+#![tactic(auto)]
 
-use libc::{STDIN_FILENO, STDOUT_FILENO};
+ghost use Rattle.std.specs.Prelude.{◌≤◌, IfOk};
+
 use lines::Line;
+use std::io;
 
 // The number of the tables that are the first `count` words.
 fn number(words: &[u32], count: usize) -> u32 {
@@ -14,58 +16,55 @@ fn number(words: &[u32], count: usize) -> u32 {
 }
 
 // Prints the number of a line's tables, once the line has ended. The value of `net` is its last letter's.
-fn answer(words: &[u32], l: Line) {
+fn answer(rt: HostRuntime, words: &[u32], l: Line) -> io::Result<()> {
     let count = l.count;
     if !l.ended {
-        return;
+        return Ok(());
     }
     if l.name != 116 {
-        return;
+        return Ok(());
     }
     if l.bad {
-        io::write_all(STDOUT_FILENO, b"no words\n");
-        return;
+        return println!(rt; "no words");
     }
-    io::print_decimal(STDOUT_FILENO, number(words, count) as u64);
-    io::write_all(STDOUT_FILENO, b"\n");
+    println!(rt; "{}", number(words, count))
 }
 
 // Goes on with one more byte.
-fn feed(words: &mut [u32], l: Line, b: u8) -> Line
+fn feed(rt: HostRuntime, words: &mut [u32], l: Line, b: u8) -> io::Result<Line>
     requires { l.value ≤ 4294967296 }
-    ensures { result.value ≤ 4294967296 }
+    ensures { IfOk result (λ m. m.value ≤ 4294967296) }
 {
     let next = lines::step(words, l, b);
-    answer(words, next);
-    next
+    answer(rt, words, next)?;
+    Ok(next)
 }
 
 // Goes on with a block of bytes.
-fn feed_all(words: &mut [u32], l: Line, block: &[u8]) -> Line
+fn feed_all(rt: HostRuntime, words: &mut [u32], l: Line, block: &[u8]) -> io::Result<Line>
     requires { l.value ≤ 4294967296 }
-    ensures { result.value ≤ 4294967296 }
+    ensures { IfOk result (λ m. m.value ≤ 4294967296) }
 {
     let mut line = l;
     let mut i = 0;
     while i < block.len() {
-        line = feed(words, line, block[i]);
+        line = feed(rt, words, line, block[i])?;
         i += 1;
     }
-    line
+    Ok(line)
 }
 
-// A proved loop has to end, and nothing says that the input does: the turns are counted down from a number that no run uses up.
-fn main() {
+// A proved loop has to end, and nothing says that the input does: no run uses up so many turns.
+fn main(rt: HostRuntime) -> io::Result<()> {
     let mut words = [0u32; 8192];
     let mut block = [0u8; 4096];
     let mut line = lines::new();
-    let mut turns = u64::MAX;
-    while turns > 0 {
-        let got = io::read_full(STDIN_FILENO, &mut block);
+    for _ in 0..u64::MAX {
+        let got = input::read_full(&mut rt.stdin(), &mut block);
         if got == 0 {
-            return;
+            return Ok(());
         }
-        line = feed_all(&mut words, line, &block[..got]);
-        turns -= 1;
+        line = feed_all(rt, &mut words, line, &block[..got])?;
     }
+    Ok(())
 }

@@ -6,41 +6,42 @@ ghost use Rattle.repository.specs.NetOf.{net_of};
 
 use model::{Location, Query};
 use repository::places::Station;
+use std::io;
 
 // What stands before entry i of a list of so many.
-fn print_before(i: usize, count: usize) {
+fn print_before(rt: &impl Print, i: usize, count: usize) -> io::Result<()> {
     if i == 0 {
-        return;
+        return Ok(());
     }
     if i < count {
         if count - i == 1 {
-            print::text(b" and ");
-            return;
+            return print::text(rt, b" and ");
         }
     }
-    print::text(b", ");
+    print::text(rt, b", ")
 }
 
-fn print_entry(i: usize, count: usize, s: u32) {
-    print_before(i, count);
-    print::number(s as u64);
+fn print_entry(rt: &impl Print, i: usize, count: usize, s: u32) -> io::Result<()> {
+    print_before(rt, i, count)?;
+    print::number(rt, s as u64)
 }
 
-fn print_list(stops: &[u32]) {
+fn print_list(rt: &impl Print, stops: &[u32]) -> io::Result<()> {
     let mut i = 0;
     while i < stops.len() {
-        print_entry(i, stops.len(), stops[i]);
+        print_entry(rt, i, stops.len(), stops[i])?;
         i += 1;
     }
+    Ok(())
 }
 
-fn print_stops(stops: &[u32]) {
+fn print_stops(rt: &impl Print, stops: &[u32]) -> io::Result<()> {
     if stops.len() == 1 {
-        print::text(b": stop ");
+        print::text(rt, b": stop ")?;
     } else {
-        print::text(b": stops ");
+        print::text(rt, b": stops ")?;
     }
-    print_list(stops);
+    print_list(rt, stops)
 }
 
 // Whether the stops are s alone.
@@ -52,144 +53,151 @@ fn is_alone(stops: &[u32], s: u32) -> bool {
 }
 
 // The stops that a stop stands for, where it is not that one alone.
-fn print_station(tables: &[u32], name: &[u8], s: u32)
+fn print_station(rt: &impl Print, tables: &[u32], name: &[u8], s: u32) -> io::Result<()>
     requires accepted { Accepted tables.now }
     requires s_bound { s < (net_of tables.now).stops }
 {
     let stops = discovery::places::stops_of_stop(tables, s);
     if is_alone(stops, s) {
-        return;
+        return Ok(());
     }
-    print::text(name);
-    print::text(b" stop ");
-    print::number(s as u64);
-    print_stops(stops);
+    print::text(rt, name)?;
+    print::text(rt, b" stop ")?;
+    print::number(rt, s as u64)?;
+    print_stops(rt, stops)?;
     let station = repository::places::station_of(tables, s);
     match station {
-        Station::At(_) => print::text(b" of its station.\n"),
-        Station::Nothing => print::text(b" of this station.\n"),
+        Station::At(_) => print::text(rt, b" of its station.\n"),
+        Station::Nothing => print::text(rt, b" of this station.\n"),
     }
 }
 
 // The stops of an area, which go through `places`.
-fn print_area_in(tables: &[u32], places: &mut [u32], name: &[u8], a: u32)
+fn print_area_in(
+    rt: &impl Print,
+    tables: &[u32],
+    places: &mut [u32],
+    name: &[u8],
+    a: u32,
+) -> io::Result<()>
     requires accepted { Accepted tables.now }
     requires a_bound { a < (net_of tables.now).areas }
 {
     let n = repository::places::stop_count(tables) as usize;
     if places.len() < n {
-        return;
+        return Ok(());
     }
     let k = discovery::places::area_stops(tables, a, &mut places[..n]);
     if places.len() < k {
-        return;
+        return Ok(());
     }
-    print::text(name);
-    print::text(b" area ");
-    print::number(a as u64);
-    print_stops(&places[..k]);
-    print::text(b".\n");
+    print::text(rt, name)?;
+    print::text(rt, b" area ")?;
+    print::number(rt, a as u64)?;
+    print_stops(rt, &places[..k])?;
+    print::text(rt, b".\n")
 }
 
 // The stops of an area. A program that could ask for its journey has tables of at most 128 stops.
-fn print_area(tables: &[u32], name: &[u8], a: u32)
+fn print_area(rt: &impl Print, tables: &[u32], name: &[u8], a: u32) -> io::Result<()>
     requires accepted { Accepted tables.now }
     requires a_bound { a < (net_of tables.now).areas }
 {
     let mut places = [0u32; 128];
-    print_area_in(tables, &mut places, name, a);
+    print_area_in(rt, tables, &mut places, name, a)
 }
 
-fn print_place(tables: &[u32], name: &[u8], l: Location)
+fn print_place(rt: &impl Print, tables: &[u32], name: &[u8], l: Location) -> io::Result<()>
     requires { Accepted tables.now }
 {
     match l {
         Location::Stop(s) => {
             if s < repository::places::stop_count(tables) {
-                print_station(tables, name, s);
+                return print_station(rt, tables, name, s);
             }
         }
         Location::Area(a) => {
             if a < repository::places::area_count(tables) {
-                print_area(tables, name, a);
+                return print_area(rt, tables, name, a);
             }
         }
     }
+    Ok(())
 }
 
 // Which stops were meant.
-pub fn print_meant(tables: &[u32], q: Query) {
+pub fn print_meant(rt: &impl Print, tables: &[u32], q: Query) -> io::Result<()> {
     let from = q.from;
     let to = q.to;
     if check_tables::check(tables) == 0 {
-        print_place(tables, b"From", from);
-        print_place(tables, b"To", to);
+        print_place(rt, tables, b"From", from)?;
+        print_place(rt, tables, b"To", to)?;
     }
+    Ok(())
 }
 
 // So many of a kind, numbered from 0.
-fn print_range(count: u32, kind: &[u8]) {
+fn print_range(rt: &impl Print, count: u32, kind: &[u8]) -> io::Result<()> {
     if count == 0 {
-        print::text(b"no ");
-        print::text(kind);
-        print::text(b"s");
-        return;
+        print::text(rt, b"no ")?;
+        print::text(rt, kind)?;
+        return print::text(rt, b"s");
     }
-    print::text(kind);
+    print::text(rt, kind)?;
     if count == 1 {
-        print::text(b" 0");
-        return;
+        return print::text(rt, b" 0");
     }
-    print::text(b"s 0 to ");
-    print::number((count - 1) as u64);
+    print::text(rt, b"s 0 to ")?;
+    print::number(rt, (count - 1) as u64)
 }
 
 // Says that a place does not exist, and which there are.
-fn print_none(tables: &[u32], name: &[u8], kind: &[u8], at: u32)
+fn print_none(rt: &impl Print, tables: &[u32], name: &[u8], kind: &[u8], at: u32) -> io::Result<()>
     requires { Accepted tables.now }
 {
-    print::text(b": ");
-    print::text(name);
-    print::text(b" is ");
-    print::text(kind);
-    print::text(b" ");
-    print::number(at as u64);
-    print::text(b", and the tables have ");
-    print_range(repository::places::stop_count(tables), b"stop");
-    print::text(b" and ");
-    print_range(repository::places::area_count(tables), b"area");
-    print::text(b"\n");
+    print::text(rt, b": ")?;
+    print::text(rt, name)?;
+    print::text(rt, b" is ")?;
+    print::text(rt, kind)?;
+    print::text(rt, b" ")?;
+    print::number(rt, at as u64)?;
+    print::text(rt, b", and the tables have ")?;
+    print_range(rt, repository::places::stop_count(tables), b"stop")?;
+    print::text(rt, b" and ")?;
+    print_range(rt, repository::places::area_count(tables), b"area")?;
+    print::text(rt, b"\n")
 }
 
 // Whether a place exists; says so where it does not.
-fn exists(tables: &[u32], name: &[u8], l: Location) -> bool
+fn exists(rt: &impl Print, tables: &[u32], name: &[u8], l: Location) -> io::Result<bool>
     requires { Accepted tables.now }
 {
     match l {
         Location::Stop(s) => {
             if s < repository::places::stop_count(tables) {
-                return true;
+                return Ok(true);
             }
-            print_none(tables, name, b"stop", s);
-            return false;
+            print_none(rt, tables, name, b"stop", s)?;
+            return Ok(false);
         }
         Location::Area(a) => {
             if a < repository::places::area_count(tables) {
-                return true;
+                return Ok(true);
             }
-            print_none(tables, name, b"area", a);
-            return false;
+            print_none(rt, tables, name, b"area", a)?;
+            return Ok(false);
         }
     }
 }
 
 // Which place does not exist: the first of the two.
-pub fn print_missing(tables: &[u32], q: Query) {
+pub fn print_missing(rt: &impl Print, tables: &[u32], q: Query) -> io::Result<()> {
     let from = q.from;
     let to = q.to;
     if check_tables::check(tables) == 0 {
-        if exists(tables, b"FROM", from) {
-            exists(tables, b"TO", to);
+        if exists(rt, tables, b"FROM", from)? {
+            exists(rt, tables, b"TO", to)?;
         }
     }
+    Ok(())
 }
