@@ -1,5 +1,6 @@
 // Journeys that handhelds send (request 2): what the depot is told of one, and how far its legs have led. What is right stands in
 // specs/, what is promised of it in proofs/; the code that decides it is in `judge`.
+#![tactic(auto)]
 
 // What the depot is told. `verdict_number` of specs/Judged.antt has the number of each case.
 #[derive(Clone, Copy)]
