@@ -1,10 +1,13 @@
 // Rows written to two files and read again: whether they are the same.
+#![tactic(auto)]
+
 ghost use Rattle.std.specs.Prelude.{◌≡◌};
 ghost use Rattle.arguments.specs.Word.{begins_with};
 ghost use Rattle.gtfs_again.specs.Again.{same_counts, again_as};
 
 use gtfs_read::Told;
 use gtfs_write::Written;
+use std::io;
 
 // What was read again, held to what was written.
 #[derive(Clone, Copy)]
@@ -70,21 +73,28 @@ fn held(times: &[u32], paths: &[u32], t: Told, again: &[u32], again_paths: &[u32
 }
 
 // Says what it is.
-fn print_again(a: Again, u: Told) {
+fn print_again(rt: &impl Print, a: Again, u: Told) -> io::Result<()> {
     match a {
-        Again::Same => print::text(b"same\n"),
-        Again::OtherCounts => print::text(b"other counts\n"),
-        Again::OtherTimes => print::text(b"other times\n"),
-        Again::OtherTransfers => print::text(b"other transfers\n"),
+        Again::Same => print::text(rt, b"same\n"),
+        Again::OtherCounts => print::text(rt, b"other counts\n"),
+        Again::OtherTimes => print::text(rt, b"other times\n"),
+        Again::OtherTransfers => print::text(rt, b"other transfers\n"),
         Again::NotRead => {
-            print::text(b"not read again: ");
-            gtfs_telling::print_number(u);
+            print::text(rt, b"not read again: ")?;
+            gtfs_telling::print_number(rt, u)
         }
     }
 }
 
 // Reads the files that were written.
-fn read_again(stop_times: &[u8], transfers: &[u8], times: &[u32], paths: &[u32], t: Told) {
+fn read_again(
+    rt: &impl Print,
+    stop_times: &[u8],
+    transfers: &[u8],
+    times: &[u32],
+    paths: &[u32],
+    t: Told,
+) -> io::Result<()> {
     let mut again = [0u32; 1024];
     let mut again_paths = [0u32; 256];
     let mut stops = [0u32; 64];
@@ -98,48 +108,54 @@ fn read_again(stop_times: &[u8], transfers: &[u8], times: &[u32], paths: &[u32],
         &mut trips,
     );
     let a = held(times, paths, t, &again, &again_paths, u);
-    print_again(a, u);
+    print_again(rt, a, u)
 }
 
 // Writes the transfers, where the times are written, and reads both files.
-fn write_paths(stop_times: &[u8], out: &mut [u8], times: &[u32], paths: &[u32], t: Told) {
+fn write_paths(
+    rt: &impl Print,
+    stop_times: &[u8],
+    out: &mut [u8],
+    times: &[u32],
+    paths: &[u32],
+    t: Told,
+) -> io::Result<()> {
     let written = gtfs_write_transfers::write_transfers(paths, t.split, out);
     match written {
-        Written::Refused(k) => {
-            gtfs_telling::print_refused(k);
-            return;
-        }
+        Written::Refused(k) => gtfs_telling::print_refused(rt, k),
         Written::Bytes(n) => {
             if out.len() < n {
-                return;
+                return Ok(());
             }
-            read_again(stop_times, &out[..n], times, paths, t);
-            return;
+            read_again(rt, stop_times, &out[..n], times, paths, t)
         }
     }
 }
 
 // Writes the times into one buffer, then the transfers into the other.
-fn write_both(out: &mut [u8], more: &mut [u8], times: &[u32], paths: &[u32], t: Told) {
+fn write_both(
+    rt: &impl Print,
+    out: &mut [u8],
+    more: &mut [u8],
+    times: &[u32],
+    paths: &[u32],
+    t: Told,
+) -> io::Result<()> {
     let written = gtfs_write_times::write_times(times, out);
     match written {
-        Written::Refused(k) => {
-            gtfs_telling::print_refused(k);
-            return;
-        }
+        Written::Refused(k) => gtfs_telling::print_refused(rt, k),
         Written::Bytes(n) => {
             if out.len() < n {
-                return;
+                return Ok(());
             }
-            write_paths(&out[..n], more, times, paths, t);
-            return;
+            write_paths(rt, &out[..n], more, times, paths, t)
         }
     }
 }
 
 // Writes the rows, reads them again and says whether they are the same.
-pub fn write_and_read(times: &[u32], paths: &[u32], t: Told) {
+pub fn write_and_read(rt: &impl Print, times: &[u32], paths: &[u32], t: Told) -> io::Result<()> {
     let mut out = [0u8; 9280];
     let mut more = [0u8; 1536];
-    write_both(&mut out, &mut more, times, paths, t);
+    write_both(rt, &mut out, &mut more, times, paths, t)
 }
