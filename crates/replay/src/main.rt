@@ -1,12 +1,14 @@
 // Answers the queries of a list. `net w0 w1 ..` are the tables of the queries below it; `q ..` is answered in the form in which the Rust's
 // answers are kept (rust.rt), `p ..` with all that `solve` leaves (probe.rt).
+#![tactic(auto)]
+
 mod probe;
 mod rust;
 
-ghost use Rattle.std.specs.Prelude.{◌≤◌};
+ghost use Rattle.std.specs.Prelude.{◌≤◌, IfOk};
 
-use libc::STDIN_FILENO;
 use lines::Line;
+use std::io;
 
 // The line so far, and how many words the tables have.
 #[derive(Clone, Copy)]
@@ -16,51 +18,52 @@ struct At {
 }
 
 // A query, in the form that the line's name asks for: the value of `q` and of `p` is their own.
-fn answer(tables: &[u32], line: &[u32], name: u64) {
+fn answer(rt: HostRuntime, tables: &[u32], line: &[u32], name: u64) -> io::Result<()> {
     if name == 113 {
-        rust::answer_line(tables, line);
-        return;
+        return rust::answer_line(rt, tables, line);
     }
     if name == 112 {
-        probe::answer_line(tables, line);
+        return probe::answer_line(rt, tables, line);
     }
+    Ok(())
 }
 
 // What a line that has ended asks for. The value of `net` is its last letter's.
-fn end(tables: &[u32], line: &[u32], at: At) -> At
+fn end(rt: HostRuntime, tables: &[u32], line: &[u32], at: At) -> io::Result<At>
     requires { at.line.value ≤ 4294967296 }
-    ensures { result.line.value ≤ 4294967296 }
+    ensures { IfOk result (λ a. a.line.value ≤ 4294967296) }
 {
     let l = at.line;
     let count = l.count;
     let known = at.count;
     if !l.ended {
-        return at;
+        return Ok(at);
     }
     if l.name == 116 {
-        return At {
+        return Ok(At {
             line: l,
             count: count,
-        };
+        });
     }
     if known <= tables.len() {
         if count <= line.len() {
-            answer(&tables[..known], &line[..count], l.name);
+            answer(rt, &tables[..known], &line[..count], l.name)?;
         }
     }
-    at
+    Ok(at)
 }
 
 // Goes on with one more byte: the words of tables go to the tables, all others to the line.
-fn feed(tables: &mut [u32], line: &mut [u32], at: At, b: u8) -> At
+fn feed(rt: HostRuntime, tables: &mut [u32], line: &mut [u32], at: At, b: u8) -> io::Result<At>
     requires { at.line.value ≤ 4294967296 }
-    ensures { result.line.value ≤ 4294967296 }
+    ensures { IfOk result (λ a. a.line.value ≤ 4294967296) }
 {
     let l = at.line;
     let count = at.count;
     if l.name == 116 {
         let next = lines::step(tables, l, b);
         return end(
+            rt,
             tables,
             line,
             At {
@@ -71,6 +74,7 @@ fn feed(tables: &mut [u32], line: &mut [u32], at: At, b: u8) -> At
     }
     let next = lines::step(line, l, b);
     end(
+        rt,
         tables,
         line,
         At {
@@ -81,21 +85,27 @@ fn feed(tables: &mut [u32], line: &mut [u32], at: At, b: u8) -> At
 }
 
 // Goes on with a block of bytes.
-fn feed_all(tables: &mut [u32], line: &mut [u32], at: At, block: &[u8]) -> At
+fn feed_all(
+    rt: HostRuntime,
+    tables: &mut [u32],
+    line: &mut [u32],
+    at: At,
+    block: &[u8],
+) -> io::Result<At>
     requires { at.line.value ≤ 4294967296 }
-    ensures { result.line.value ≤ 4294967296 }
+    ensures { IfOk result (λ a. a.line.value ≤ 4294967296) }
 {
     let mut now = at;
     let mut i = 0;
     while i < block.len() {
-        now = feed(tables, line, now, block[i]);
+        now = feed(rt, tables, line, now, block[i])?;
         i += 1;
     }
-    now
+    Ok(now)
 }
 
-// A proved loop has to end, and nothing says that the input does: the turns are counted down from a number that no run uses up.
-fn main() {
+// A proved loop has to end, and nothing says that the input does: no run uses up so many turns.
+fn main(rt: HostRuntime) -> io::Result<()> {
     let mut tables = [0u32; 4096];
     let mut line = [0u32; 64];
     let mut block = [0u8; 4096];
@@ -103,13 +113,12 @@ fn main() {
         line: lines::new(),
         count: 0,
     };
-    let mut turns = u64::MAX;
-    while turns > 0 {
-        let got = io::read_full(STDIN_FILENO, &mut block);
+    for _ in 0..u64::MAX {
+        let got = input::read_full(&mut rt.stdin(), &mut block);
         if got == 0 {
-            return;
+            return Ok(());
         }
-        at = feed_all(&mut tables, &mut line, at, &block[..got]);
-        turns -= 1;
+        at = feed_all(rt, &mut tables, &mut line, at, &block[..got])?;
     }
+    Ok(())
 }

@@ -7,28 +7,36 @@ ghost use Rattle.std.specs.Prelude.{◌≤◌};
 use asking::Asked;
 use model::{Answer, Query};
 use raptor::Needed;
+use std::io;
 
-fn print_fields(number: u32, time: u32, stop: u32, round: u32, length: usize) {
-    print::number(number as u64);
-    print::field(time);
-    print::field(stop);
-    print::field(round);
-    print::text(b" ");
-    print::number(length as u64);
+fn print_fields(
+    rt: HostRuntime,
+    number: u32,
+    time: u32,
+    stop: u32,
+    round: u32,
+    length: usize,
+) -> io::Result<()> {
+    print::number(&rt, number as u64)?;
+    print::field(&rt, time)?;
+    print::field(&rt, stop)?;
+    print::field(&rt, round)?;
+    print::text(&rt, b" ")?;
+    print::number(&rt, length as u64)
 }
 
-fn print_answer(a: Answer) {
+fn print_answer(rt: HostRuntime, a: Answer) -> io::Result<()> {
     match a {
         Answer::Found {
             time,
             stop,
             round,
             length,
-        } => print_fields(0, time.0, stop, round, length),
-        Answer::Refused(number) => print_fields(number, 0, 0, 0, 0),
-        Answer::NoRouteFound => print_fields(10, 0, 0, 0, 0),
-        Answer::FailedToBuildRoute => print_fields(11, 0, 0, 0, 0),
-        Answer::TooLong(length) => print_fields(12, 0, 0, 0, length),
+        } => print_fields(rt, 0, time.0, stop, round, length),
+        Answer::Refused(number) => print_fields(rt, number, 0, 0, 0, 0),
+        Answer::NoRouteFound => print_fields(rt, 10, 0, 0, 0, 0),
+        Answer::FailedToBuildRoute => print_fields(rt, 11, 0, 0, 0, 0),
+        Answer::TooLong(length) => print_fields(rt, 12, 0, 0, 0, length),
     }
 }
 
@@ -79,14 +87,13 @@ fn digest_bytes(s: &[u8]) -> u64 {
 }
 
 // What is left in a slice.
-fn print_left(name: &[u8], before: u64, after: u64) {
-    print::text(name);
+fn print_left(rt: HostRuntime, name: &[u8], before: u64, after: u64) -> io::Result<()> {
+    print::text(&rt, name)?;
     if before == after {
-        print::text(b" untouched");
-        return;
+        return print::text(&rt, b" untouched");
     }
-    print::text(b" ");
-    print::number(after);
+    print::text(&rt, b" ")?;
+    print::number(&rt, after)
 }
 
 // The digests of the four.
@@ -107,28 +114,29 @@ fn digest_all(words: &[u32], marks: &[u64], places: &[u32], journey: &[u8]) -> D
     }
 }
 
-fn print_all(before: Digests, after: Digests) {
-    print_left(b", words", before.words, after.words);
-    print_left(b", marks", before.marks, after.marks);
-    print_left(b", places", before.places, after.places);
-    print_left(b", journey", before.journey, after.journey);
-    print::text(b"\n");
+fn print_all(rt: HostRuntime, before: Digests, after: Digests) -> io::Result<()> {
+    print_left(rt, b", words", before.words, after.words)?;
+    print_left(rt, b", marks", before.marks, after.marks)?;
+    print_left(rt, b", places", before.places, after.places)?;
+    print_left(rt, b", journey", before.journey, after.journey)?;
+    print::text(&rt, b"\n")
 }
 
 // Lends the slices to `solve`, and prints what comes back.
 fn ask(
+    rt: HostRuntime,
     tables: &[u32],
     words: &mut [u32],
     marks: &mut [u64],
     places: &mut [u32],
     journey: &mut [u8],
     q: Query,
-) {
+) -> io::Result<()> {
     let before = digest_all(words, marks, places, journey);
     let a = raptor::solve(tables, words, marks, places, journey, q);
     let after = digest_all(words, marks, places, journey);
-    print_answer(a);
-    print_all(before, after);
+    print_answer(rt, a)?;
+    print_all(rt, before, after)
 }
 
 // What the length of a slice is where it is to be one short.
@@ -174,12 +182,13 @@ fn lent_to(tables: &[u32], journey: usize, fault: u32) -> Lent {
     }
 }
 
-fn too_large() {
-    print::text(b"too large\n");
+fn too_large(rt: HostRuntime) -> io::Result<()> {
+    print::text(&rt, b"too large\n")
 }
 
 // Cuts the slices to the lengths that are lent.
 fn cut(
+    rt: HostRuntime,
     tables: &[u32],
     words: &mut [u32],
     marks: &mut [u64],
@@ -187,44 +196,42 @@ fn cut(
     journey: &mut [u8],
     q: Query,
     to: Lent,
-) {
+) -> io::Result<()> {
     let w = to.words;
     let y = to.marks;
     let p = to.places;
     let z = to.journey;
     if words.len() < w {
-        too_large();
-        return;
+        return too_large(rt);
     }
     if marks.len() < y {
-        too_large();
-        return;
+        return too_large(rt);
     }
     if places.len() < p {
-        too_large();
-        return;
+        return too_large(rt);
     }
     if journey.len() < z {
-        too_large();
-        return;
+        return too_large(rt);
     }
     ask(
+        rt,
         tables,
         &mut words[..w],
         &mut marks[..y],
         &mut places[..p],
         &mut journey[..z],
         q,
-    );
+    )
 }
 
-fn answer(tables: &[u32], q: Query, buffer: usize, fault: u32) {
+fn answer(rt: HostRuntime, tables: &[u32], q: Query, buffer: usize, fault: u32) -> io::Result<()> {
     let mut words = [7u32; 4096];
     let mut marks = [7u64; 32];
     let mut places = [7u32; 128];
     let mut journey = [7u8; 4096];
     let to = lent_to(tables, buffer, fault);
     cut(
+        rt,
         tables,
         &mut words,
         &mut marks,
@@ -232,23 +239,22 @@ fn answer(tables: &[u32], q: Query, buffer: usize, fault: u32) {
         &mut journey,
         q,
         to,
-    );
+    )
 }
 
 fn bytes_of(x: u32) -> usize {
     x as usize
 }
 
-pub fn answer_line(tables: &[u32], line: &[u32]) {
+pub fn answer_line(rt: HostRuntime, tables: &[u32], line: &[u32]) -> io::Result<()> {
     if line.len() < 10 {
-        print::text(b"no query\n");
-        return;
+        return print::text(&rt, b"no query\n");
     }
     let buffer = bytes_of(line[8]);
     let fault = line[9];
     let asked = asking::query(line, line[7]);
     match asked {
-        Asked::Query(q) => answer(tables, q, buffer, fault),
-        Asked::Nothing => print::text(b"no query\n"),
+        Asked::Query(q) => answer(rt, tables, q, buffer, fault),
+        Asked::Nothing => print::text(&rt, b"no query\n"),
     }
 }

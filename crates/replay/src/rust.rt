@@ -3,26 +3,26 @@
 use asking::{Asked, Told};
 use journey::Reading;
 use model::{Answer, Query};
+use std::io;
 
 // The journey of so many bytes: how many legs, and each leg.
-fn print_journey(journey: &[u8], length: usize) {
+fn print_journey(rt: HostRuntime, journey: &[u8], length: usize) -> io::Result<()> {
     if journey.len() < length {
-        return;
+        return Ok(());
     }
     let bytes = &journey[..length];
     let reading = journey::read(bytes);
     let Reading::Legs(n) = reading else {
-        return;
+        return Ok(());
     };
-    print::text(b" ");
-    print::number(n as u64);
-    print::legs(bytes, b" | ", b"", b"");
+    print::text(&rt, b" ")?;
+    print::number(&rt, n as u64)?;
+    print::legs(&rt, bytes, b" | ", b"", b"")
 }
 
-fn print_answer(journey: &[u8], told: Told) {
+fn print_answer(rt: HostRuntime, journey: &[u8], told: Told) -> io::Result<()> {
     let Told::Answer(a) = told else {
-        print::text(b"too large\n");
-        return;
+        return print::text(&rt, b"too large\n");
     };
     match a {
         Answer::Found {
@@ -31,38 +31,37 @@ fn print_answer(journey: &[u8], told: Told) {
             round,
             length,
         } => {
-            print::text(b"0");
-            print::field(time.0);
-            print::field(stop);
-            print::field(round);
-            print_journey(journey, length);
+            print::text(&rt, b"0")?;
+            print::field(&rt, time.0)?;
+            print::field(&rt, stop)?;
+            print::field(&rt, round)?;
+            print_journey(rt, journey, length)?;
         }
-        Answer::Refused(number) => print::number(number as u64),
-        Answer::NoRouteFound => print::text(b"10"),
-        Answer::FailedToBuildRoute => print::text(b"11"),
+        Answer::Refused(number) => print::number(&rt, number as u64)?,
+        Answer::NoRouteFound => print::text(&rt, b"10")?,
+        Answer::FailedToBuildRoute => print::text(&rt, b"11")?,
         Answer::TooLong(length) => {
-            print::text(b"12 ");
-            print::number(length as u64);
+            print::text(&rt, b"12 ")?;
+            print::number(&rt, length as u64)?;
         }
     }
-    print::text(b"\n");
+    print::text(&rt, b"\n")
 }
 
 // A query on the tables, asked and answered.
-fn answer(tables: &[u32], q: Query) {
+fn answer(rt: HostRuntime, tables: &[u32], q: Query) -> io::Result<()> {
     let mut words = [0u32; 4096];
     let mut marks = [0u64; 32];
     let mut places = [0u32; 128];
     let mut journey = [0u8; 4096];
     let told = asking::ask(tables, &mut words, &mut marks, &mut places, &mut journey, q);
-    print_answer(&journey, told);
+    print_answer(rt, &journey, told)
 }
 
 // The query that the words of a line are, asked and answered.
-pub fn answer_line(tables: &[u32], line: &[u32]) {
+pub fn answer_line(rt: HostRuntime, tables: &[u32], line: &[u32]) -> io::Result<()> {
     if line.len() < 7 {
-        print::text(b"no query\n");
-        return;
+        return print::text(&rt, b"no query\n");
     }
     let mut mode = 115;
     if 7 < line.len() {
@@ -70,7 +69,7 @@ pub fn answer_line(tables: &[u32], line: &[u32]) {
     }
     let asked = asking::query(line, mode);
     match asked {
-        Asked::Query(q) => answer(tables, q),
-        Asked::Nothing => print::text(b"no query\n"),
+        Asked::Query(q) => answer(rt, tables, q),
+        Asked::Nothing => print::text(&rt, b"no query\n"),
     }
 }
