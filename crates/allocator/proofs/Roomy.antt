@@ -5,7 +5,7 @@ use mathlib.Core.Path.{◌≡◌}
 use mathlib.Core.List.{List}
 use lib.ListN.{length}
 use Rattle.model.specs.Limits.{MOST_STOPS, MOST_ROUTES}
-use Rattle.allocator.specs.Layout.{words_room, marks_room, Words, Marks, Sized}
+use Rattle.allocator.specs.Layout.{words_room, marks_room, Sized}
 
 module _ {stops routes : ℕ} {ws ms : List ℕ} where
   pub sized_of : stops ≤ MOST_STOPS → routes ≤ MOST_ROUTES → length ws ≡ words_room stops routes → length ms ≡ marks_room stops routes

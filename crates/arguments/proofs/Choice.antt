@@ -1,5 +1,5 @@
 -- What a test chose, from the test's answer.
-use mathlib.Core.Path.{◌≡◌, refl, sym, ◌∙◌}
+use mathlib.Core.Path.{◌≡◌}
 use mathlib.Core.Bool.{Bool, true, false, cond}
 
 module _ {A : Type 0} (x y : A) where

@@ -1,6 +1,6 @@
 -- What `ask` tells, by what the tables ask for and the lengths of the slices. Assumes nothing.
 use Prim.Native.Nat.{ℕ, ◌≤◌, ◌<◌}
-use mathlib.Core.Path.{◌≡◌, refl, sym, ◌∙◌}
+use mathlib.Core.Path.{◌≡◌, refl, ◌∙◌}
 use mathlib.Core.Bool.{true, false}
 use mathlib.Core.List.{List, ◌++◌}
 use native.Mathlib.Omega.{arith}
@@ -15,7 +15,6 @@ use Rattle.raptor.specs.declared.Needed.TheVariants.{Lengths, Refused as NoLengt
 use Rattle.raptor.specs.Rooms.{room_of}
 use Rattle.raptor.specs.Lent.{Lent, lent}
 use Rattle.raptor.specs.Solved.{Solved}
-use Rattle.asking.specs.declared.Told.{Told}
 use Rattle.asking.specs.declared.Told.TheVariants.{Answer as Tell, TooLarge}
 use Rattle.asking.specs.Tells.{enough, foremost, SolvedIn, Tells}
 

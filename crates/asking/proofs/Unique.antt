@@ -13,7 +13,7 @@ use Rattle.raptor.specs.Lent.{Lent}
 use Rattle.raptor.proofs.Unique.{solved_unique}
 use Rattle.asking.specs.declared.Told.{Told}
 use Rattle.asking.specs.declared.Told.TheVariants.{Answer as Tell}
-use Rattle.asking.specs.Tells.{enough, foremost, SolvedIn, Tells}
+use Rattle.asking.specs.Tells.{enough, foremost, Tells}
 
 whole : (k : ℕ) (u v : List ℕ) → take k u ≡ take k v → drop k u ≡ drop k v → u ≡ v
 whole k u v a b =

@@ -1,8 +1,6 @@
 -- The query that the words `fromkind from tokind to d|a moment walks` of a line are, in a mode; or nothing, where they are none.
 use Rattle.std.specs.Prelude.{ℕ, cond, List, eqb, ltb, length, get_or}
-use Rattle.model.specs.declared.Location.{Location}
 use Rattle.model.specs.declared.Location.TheVariants.{Stop, Area}
-use Rattle.model.specs.declared.TimeConstraint.{TimeConstraint}
 use Rattle.model.specs.declared.TimeConstraint.TheVariants.{Departure, Arrival}
 use Rattle.model.specs.declared.Walks.{Walks}
 use Rattle.model.specs.declared.Walks.TheVariants.{Unsaid, Allowed, Barred}

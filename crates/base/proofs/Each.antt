@@ -1,6 +1,6 @@
 -- A property of every entry of a list: of lists joined, reordered, and of each entry.
 use mathlib.Core.Path.{sym, subst}
-use mathlib.Core.List.{List, [], ◌∷◌, ◌++◌, Memᴰ, Permᴰ}
+use mathlib.Core.List.{List, ◌++◌, Memᴰ, Permᴰ}
 use Rattle.base.specs.Each.{Each, nil, cons}
 
 pub each_append : {A : Type 0} {P : A → Type 0} {xs ys : List A} → Each P xs → Each P ys → Each P (xs ++ ys)

@@ -1,5 +1,5 @@
 -- What reading on asks of an index that was found in range: an entry of a starts section, or room in a list.
-use Prim.Native.Nat.{ℕ, ◌+◌, ◌-◌, ◌*◌, ◌/◌, ◌≤◌, ◌<◌}
+use Prim.Native.Nat.{ℕ, ◌+◌, ◌*◌, ◌≤◌, ◌<◌}
 use mathlib.Core.Path.{◌≡◌}
 use mathlib.Core.Bool.{true}
 use mathlib.Core.List.{List}
@@ -7,7 +7,6 @@ use native.Mathlib.Omega.{arith}
 use Rattle.repository.specs.Sections.{size, sec, stops, routes, CALL_STARTS, CALLS, ROUTE_STOP_STARTS}
 use Rattle.repository.specs.Sections.{ROUTE_TRIP_STARTS, CALL_WORDS, call_route}
 use Rattle.repository.specs.Laid.{Laid}
-use Rattle.repository.specs.NetOf.{count}
 use Rattle.repository.specs.Listed.{call, calls_hold}
 use Rattle.repository.specs.Entries.{Entry}
 use Rattle.repository.proofs.Rooms.{starts_top}

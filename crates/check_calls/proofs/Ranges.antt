@@ -1,6 +1,6 @@
 -- What a test of a range of numbers says of each of them, both ways.
 use Prim.Native.Nat.{ℕ, zero, suc, ◌+◌, ◌-◌, ◌≤◌, ◌<◌}
-use mathlib.Core.Path.{◌≡◌, refl, sym, ap}
+use mathlib.Core.Path.{◌≡◌, sym, ap}
 use mathlib.Core.Bool.{Bool, true, false, cond, not, ◌||◌, or-true, true≢false}
 use native.Mathlib.Omega.{arith}
 use lib.Dec.{eqb}

@@ -1,6 +1,6 @@
 -- Words that the check refuses and a search may go by: they hold N's timetable, and break each rule of number 2 that no search asks for. So
 -- `Searchable` is weaker than `Accepted`, and a fact too many in it is seen here.
-use Prim.Native.Nat.{ℕ, ◌+◌, ◌-◌, ◌≤◌, ◌<◌}
+use Prim.Native.Nat.{ℕ, ◌+◌, ◌-◌, ◌<◌}
 use mathlib.Core.Path.{◌≡◌, refl, ap}
 use mathlib.Core.Bool.{Bool, true, false, ◌&&◌}
 use mathlib.Core.List.{List, [], ◌∷◌}

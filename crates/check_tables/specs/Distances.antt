@@ -1,5 +1,5 @@
 -- Number 5 row by row, as `measured` has it.
-use Rattle.std.specs.Prelude.{ℕ, ◌+◌, ◌*◌, Bool, ◌&&◌, ◌||◌, List, leb, eqb}
+use Rattle.std.specs.Prelude.{ℕ, Bool, ◌&&◌, ◌||◌, List, leb, eqb}
 use Rattle.shared.specs.Walk.{stretch}
 use Rattle.model.specs.Moments.{MAX}
 use Rattle.model.specs.Limits.{LONGEST_SPAN}

@@ -1,32 +1,32 @@
 -- What the program does in one pass, the model does in two: the strict test against the best moment of then implies the one against the best
 -- before the half-round, and nothing that a half-round reads is changed by applying.
-use Prim.Native.Nat.{ℕ, ◌+◌, ◌*◌}
-use mathlib.Core.Path.{◌≡◌, refl, sym, ap, ◌∙◌, subst}
-use mathlib.Core.Bool.{Bool, true, false, cond, ◌&&◌}
-use mathlib.Core.Logic.{◌⊎◌, inl, inr}
-use mathlib.Core.Option.{Option, some, none}
+use Prim.Native.Nat.{ℕ, ◌*◌}
+use mathlib.Core.Path.{◌≡◌, refl, sym, ap, ◌∙◌}
+use mathlib.Core.Bool.{Bool, true, false, cond}
+use mathlib.Core.Logic.{inl, inr}
+use mathlib.Core.Option.{Option}
 use mathlib.Core.List.{List, [], ◌∷◌, ◌++◌}
-use lib.ListN.{get_or, set}
+use lib.ListN.{get_or}
 use Rattle.base.proofs.Choice.{cond_elim}
 use Rattle.model.specs.declared.Aboard.{Aboard}
 use Rattle.model.specs.declared.Aboard.TheVariants.{On, Off}
 use Rattle.model.specs.declared.Direction.{Direction}
 use Rattle.model.specs.declared.Leg.{Leg}
 use Rattle.model.specs.declared.LegType.{LegType}
-use Rattle.model.specs.declared.LegType.TheVariants.{Transit, Transfer, Walk}
+use Rattle.model.specs.declared.LegType.TheVariants.{Transfer, Walk}
 use Rattle.model.specs.Tables.{Foot, Net}
 use Rattle.model.specs.Lists.{gather, set_in}
 use Rattle.model.specs.Moments.{better, ahead}
 use Rattle.model.specs.State.{Task, Labels, Times, State, Proposal}
 use Rattle.model.specs.Applying.{wins, store, apply1, apply_all, keep_all}
 use Rattle.model.specs.Legs.{leg_of, propose}
-use Rattle.model.specs.Rides.{reach, leave, board, alight, scan, course, rides}
+use Rattle.model.specs.Rides.{board, alight, scan, course, rides}
 use Rattle.model.specs.Footpaths.{walked, paths, footpaths}
 use Rattle.model.specs.Round.{listed, picks, opened, ride_half, foot_half, ridden, footed, aimed, round_times, ridden_parents}
 use Rattle.model.specs.Round.{round_parents, round}
 use Rattle.model.specs.Work.{Work, work_of}
 use Rattle.model.proofs.Better.{Improves, better_than, beaten}
-use Rattle.model.proofs.Applied.{apply1_on, apply1_off}
+use Rattle.model.proofs.Applied.{apply1_off}
 use Rattle.model.proofs.Choosing.{get_d_set_or}
 use Rattle.allocator.specs.Operations.{applied, holding}
 use Rattle.allocator.specs.Parts.{with_held, with_held_mark}

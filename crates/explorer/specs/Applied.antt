@@ -1,11 +1,9 @@
 -- One proposal applied to the workspace, and a workspace with other labels and parents.
-use Rattle.std.specs.Prelude.{ℕ, ◌+◌, cond, List, set}
-use Rattle.std.proofs.Math.Option.{Option, some}
-use Rattle.model.specs.declared.Direction.{Direction}
+use Rattle.std.specs.Prelude.{List}
+use Rattle.std.proofs.Math.Option.{Option}
 use Rattle.model.specs.declared.Leg.{Leg}
 use Rattle.model.specs.State.{Task, Labels}
 use Rattle.model.specs.Tables.{Net}
-use Rattle.model.specs.Applying.{wins, apply1}
 use Rattle.model.specs.Round.{opened}
 use Rattle.model.specs.Work.{Work, work_of, state_of}
 

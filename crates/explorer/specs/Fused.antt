@@ -1,6 +1,6 @@
 -- The half-rounds as the program does them: each proposal is applied as it is made, and tested against the best moment of then. `fused` of
 -- proofs/Fused.antt says that this is the model's: all proposals made from the state before, then applied in order.
-use Rattle.std.specs.Prelude.{ℕ, ◌*◌, Bool, true, false, cond, List, [], ◌∷◌, get_or}
+use Rattle.std.specs.Prelude.{ℕ, ◌*◌, Bool, cond, List, [], ◌∷◌, get_or}
 use Rattle.model.specs.declared.Aboard.{Aboard}
 use Rattle.model.specs.declared.Aboard.TheVariants.{On, Off}
 use Rattle.model.specs.declared.Direction.{Direction}

@@ -10,7 +10,7 @@ use Rattle.marks.specs.declared.Next.TheVariants.{At}
 use Rattle.model.specs.declared.Direction.{Direction}
 use Rattle.model.specs.Tables.{Net}
 use Rattle.model.specs.Lists.{upto, set_in}
-use Rattle.model.specs.Choosing.{Chosen, first_position, choose1, choose_at, choose}
+use Rattle.model.specs.Choosing.{first_position, choose_at, choose}
 use Rattle.model.specs.Work.{Work}
 use Rattle.repository.specs.Sections.{call_route}
 use Rattle.repository.specs.Readable.{Searchable}

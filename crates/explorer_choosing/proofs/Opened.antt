@@ -1,7 +1,6 @@
 -- A round's beginning, step by step: what the labels swapped, the routes chosen and the marks cleared come to.
 use Prim.Native.Nat.{ℕ}
 use mathlib.Core.Path.{◌≡◌, refl, ap, ◌∙◌}
-use mathlib.Core.List.{List}
 use Rattle.model.specs.declared.Direction.{Direction}
 use Rattle.model.specs.declared.Direction.TheVariants.{Departure, Arrival}
 use Rattle.model.specs.declared.Mode.{Mode}

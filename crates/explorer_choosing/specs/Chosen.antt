@@ -1,8 +1,7 @@
 -- Choosing as the program does it to the workspace, and a round's beginning by what it reads of the task.
-use Rattle.std.specs.Prelude.{ℕ, Bool, false, List, []}
+use Rattle.std.specs.Prelude.{ℕ, false, []}
 use Rattle.model.specs.declared.Direction.{Direction}
 use Rattle.model.specs.declared.Mode.{Mode}
-use Rattle.model.specs.State.{Task}
 use Rattle.model.specs.Tables.{Net}
 use Rattle.model.specs.Lists.{upto, set_in}
 use Rattle.model.specs.Choosing.{first_position, choose_at, choose}

@@ -4,7 +4,6 @@ use mathlib.Core.Path.{◌≡◌, refl, sym, ap, ◌∙◌}
 use mathlib.Core.Bool.{Bool, true, false, cond}
 use mathlib.Core.List.{List}
 use native.Mathlib.Omega.{arith}
-use lib.Dec.{ltb}
 use lib.ListN.{get_or}
 use borrow.Author.Tests.{le-ltb, ltb-false}
 use Rattle.model.specs.declared.Direction.{Direction}
@@ -15,7 +14,6 @@ use Rattle.model.specs.Tables.{Foot}
 use Rattle.model.specs.Moments.{or_max, better, ahead}
 use Rattle.model.specs.Applying.{wins, apply1}
 use Rattle.model.specs.Footpaths.{walked}
-use Rattle.model.specs.Legs.{leg_of}
 use Rattle.model.specs.Work.{Work}
 use Rattle.allocator.specs.Layout.{view, best_of}
 use Rattle.allocator.specs.Operations.{applied}

@@ -1,14 +1,14 @@
 -- The check says yes exactly where the legs are right.
 -- Assumes nothing.
-use Prim.Native.Nat.{ℕ, zero, suc, ◌+◌, ◌≤◌, ◌<◌}
+use Prim.Native.Nat.{ℕ, ◌≤◌, ◌<◌}
 use mathlib.Core.Path.{◌≡◌, refl, sym, ap, ◌∙◌, subst}
-use mathlib.Core.Bool.{Bool, true, false, cond, ◌&&◌, false≢true}
+use mathlib.Core.Bool.{Bool, true, false, ◌&&◌}
 use mathlib.Core.List.{List, [], ◌∷◌, Memᴰ}
 use native.Mathlib.Omega.{arith}
 use native.Mathlib.Nat.{zero-add}
 use lib.Dec.{leb, eqb}
 use borrow.Author.Tests.{eqb-true, eq-eqb, leb-true, le-leb}
-use Rattle.base.proofs.Choice.{split, and_left, and_right}
+use Rattle.base.proofs.Choice.{and_left, and_right}
 use Rattle.model.specs.declared.Leg.{Leg}
 use Rattle.model.specs.declared.LegType.{LegType}
 use Rattle.model.specs.declared.LegType.TheVariants.{Transit, Transfer, Walk}
@@ -16,7 +16,6 @@ use Rattle.model.specs.declared.Query.{Query}
 use Rattle.model.specs.declared.TimeConstraint.{TimeConstraint}
 use Rattle.model.specs.declared.TimeConstraint.TheVariants.{Departure, Arrival}
 use Rattle.model.specs.Tables.{Net}
-use Rattle.model.specs.Limits.{MOST_ROUNDS}
 use Rattle.model.specs.Places.{place_stops}
 use Rattle.model.specs.Answer.{may_walk}
 use Rattle.model.specs.Journey.{Allowed}
@@ -24,7 +23,7 @@ use Rattle.model.specs.Sound.{Sound}
 use Rattle.handheld.specs.declared.Led.{Led}
 use Rattle.handheld.specs.declared.Onward.{Onward}
 use Rattle.handheld.specs.declared.Onward.TheVariants.{To, Wrong}
-use Rattle.handheld.specs.Right.{Joined, done, by_ride, by_path, is_ride, begins_with_ride, ends_with_ride, RideInPlace, soonest, InTime, Right}
+use Rattle.handheld.specs.Right.{Joined, done, by_ride, by_path, is_ride, begins_with_ride, ends_with_ride, RideInPlace, InTime, Right}
 use Rattle.handheld.specs.Verdict.{is_listed, follow, may_begin, may_end, at_start, comes_in, verdict}
 use Rattle.handheld.proofs.Any.{any_at, any_is}
 use Rattle.handheld.proofs.Legs.{both, false_is}

@@ -1,11 +1,11 @@
 -- Legs can be followed exactly where they are `Joined`.
 -- Assumes nothing.
-use Prim.Native.Nat.{ℕ, zero, suc, ◌+◌, ◌≤◌, ◌<◌}
+use Prim.Native.Nat.{ℕ, suc, ◌+◌, ◌≤◌, ◌<◌}
 use mathlib.Core.Path.{◌≡◌, refl, sym, ap, ◌∙◌, subst}
-use mathlib.Core.Bool.{Bool, true, false, cond, ◌&&◌}
+use mathlib.Core.Bool.{Bool, true, false, ◌&&◌}
 use mathlib.Core.List.{List, [], ◌∷◌}
 use native.Mathlib.Omega.{arith}
-use native.Mathlib.Nat.{add-zero, add-suc}
+use native.Mathlib.Nat.{add-zero}
 use lib.Dec.{leb, eqb}
 use borrow.Author.Tests.{eqb-true, eq-eqb, leb-true, le-leb}
 use Rattle.base.proofs.Choice.{split, and_left, and_right}
@@ -14,12 +14,11 @@ use Rattle.model.specs.declared.LegType.{LegType}
 use Rattle.model.specs.declared.LegType.TheVariants.{Transit, Transfer, Walk}
 use Rattle.model.specs.Tables.{Net}
 use Rattle.model.specs.Limits.{MOST_ROUNDS}
-use Rattle.model.specs.Journey.{Ridden, Walked, Allowed}
+use Rattle.model.specs.Journey.{Allowed}
 use Rattle.model.specs.Sound.{Sound}
 use Rattle.handheld.specs.declared.Led.{Led}
-use Rattle.handheld.specs.declared.Onward.{Onward}
 use Rattle.handheld.specs.declared.Onward.TheVariants.{To, Wrong}
-use Rattle.handheld.specs.Right.{Joined, done, by_ride, by_path, is_ride, ends_with_ride}
+use Rattle.handheld.specs.Right.{Joined, done, by_ride, by_path, ends_with_ride}
 use Rattle.handheld.specs.Fitting.{fits_ride, fits_leg}
 use Rattle.handheld.specs.Verdict.{rides_with, follows, led, leg_on, follow}
 use Rattle.handheld.proofs.Legs.{both, ride_sound, ride_complete, walk_sound, walk_complete}

@@ -15,25 +15,23 @@
 -- no legs is a no                                                         E1
 -- 1 to 5, then 7, 8, 9, then 13, before yes and no                        D1 to D3
 use Prim.Native.Nat.{ℕ, zero, suc}
-use mathlib.Core.Path.{◌≡◌, refl}
-use mathlib.Core.Bool.{Bool, true, false}
-use mathlib.Core.Option.{Option, none, some}
+use mathlib.Core.Path.{refl}
+use mathlib.Core.Bool.{true, false}
+use mathlib.Core.Option.{none, some}
 use mathlib.Core.List.{List, [], ◌∷◌, ◌++◌}
 use Rattle.model.specs.declared.Leg.{Leg}
 use Rattle.model.specs.declared.Location.TheVariants.{Stop, Area}
 use Rattle.model.specs.declared.Mode.TheVariants.{Source}
-use Rattle.model.specs.declared.Query.{Query}
-use Rattle.model.specs.declared.TimeConstraint.TheVariants.{Departure, Arrival}
-use Rattle.model.specs.declared.Walks.TheVariants.{Unsaid, Allowed, Barred}
+use Rattle.model.specs.declared.TimeConstraint.TheVariants.{Departure}
+use Rattle.model.specs.declared.Walks.TheVariants.{Allowed, Barred}
 use Rattle.model.specs.Tables.{Net}
 use Rattle.model.specs.Lists.{upto, gather}
 use Rattle.model.specs.Places.{exists, or_itself, stops_of_stop, served_of, stops_of_area, place_stops, unserved, barren}
 use Rattle.model.specs.Bytes.{u32, kind_byte, trip_field, write_leg, write, read, read_from, first_leg, uncut, leg_of_body, leg_at, u32_at, before, leg_size}
 use Rattle.model.specs.Answer.{may_walk, moment_of, refusal, lowest, unless}
-use Rattle.model.proofs.Examples.{Listed, net, N, N⁺, ask, departing, arriving}
-use Rattle.model.proofs.Networks.{route, one, foot, with_feet, of_routes, X1, X5, X9b, X12, X18, W}
-use Rattle.model.proofs.Worked.{◌is◌, asked, told, Hold, ride, transfer, walk, leaving, coming}
-use Rattle.handheld.specs.declared.Verdict.{Verdict}
+use Rattle.model.proofs.Examples.{net, N, N⁺, ask, departing, arriving}
+use Rattle.model.proofs.Networks.{one, foot, of_routes, X1, X5, X9b, X12, X18, W}
+use Rattle.model.proofs.Worked.{◌is◌, Hold, ride, transfer, walk, leaving, coming}
 use Rattle.handheld.specs.declared.Verdict.TheVariants.{Yes, No, Bad, Refused}
 use Rattle.handheld.specs.Any.{any}
 use Rattle.handheld.specs.Right.{is_ride, soonest}

@@ -1,7 +1,7 @@
 -- "Everything our search writes gets a yes (arrival: with footpaths listed both ways)."
 -- Assumes nothing.
 use Prim.Native.Nat.{ℕ, zero, suc, ◌≤◌, ◌<◌}
-use mathlib.Core.Path.{◌≡◌, refl, sym, ap, ◌∙◌, subst}
+use mathlib.Core.Path.{◌≡◌, refl}
 use mathlib.Core.Bool.{Bool, true}
 use mathlib.Core.List.{List, [], ◌∷◌, Memᴰ, reverse, reverse_aux}
 use native.Mathlib.Omega.{arith}
@@ -12,7 +12,6 @@ use Rattle.model.specs.declared.Mode.{Mode}
 use Rattle.model.specs.declared.Query.{Query}
 use Rattle.model.specs.declared.TimeConstraint.{TimeConstraint}
 use Rattle.model.specs.declared.TimeConstraint.TheVariants.{Departure as DepartAt, Arrival as ArriveBy}
-use Rattle.model.specs.Limits.{MOST_ROUNDS}
 use Rattle.model.specs.Tables.{Net}
 use Rattle.model.specs.State.{Task, task}
 use Rattle.model.specs.Places.{place_stops}
@@ -20,13 +19,13 @@ use Rattle.model.specs.Round.{listed}
 use Rattle.model.specs.Search.{search}
 use Rattle.model.specs.Back.{in_order, journey}
 use Rattle.model.specs.Answer.{may_walk, task_by, task_of, refusal, searched, legs_of}
-use Rattle.model.specs.Journey.{Chain, stay, ride_on, walk_on, BothWays}
+use Rattle.model.specs.Journey.{Chain, stay, ride_on, walk_on}
 use Rattle.model.specs.Sound.{Sound, SoundPlaces, Asked}
 use Rattle.model.proofs.Orders.{listed_fair}
 use Rattle.model.proofs.Trail.{Trail, begin, rode, went}
 use Rattle.model.proofs.Journeys.{trail, chosen, in_rounds, departing, arriving}
 use Rattle.model.proofs.Asking.{asked}
-use Rattle.handheld.specs.Right.{Joined, done, by_ride, by_path, is_ride, begins_with_ride, ends_with_ride, RideInPlace, soonest, InTime}
+use Rattle.handheld.specs.Right.{Joined, done, by_ride, by_path, is_ride, begins_with_ride, ends_with_ride, soonest}
 use Rattle.handheld.specs.Right.{RightFor, Right, Ways}
 use Rattle.handheld.specs.Verdict.{verdict}
 use Rattle.handheld.proofs.Legs.{false_is}

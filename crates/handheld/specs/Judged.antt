@@ -1,5 +1,5 @@
 -- "The depot wants a yes or no from tables, query and bytes. .. Refusals: tables as 1 to 5, then 7, 8, 9, 13."
-use Rattle.std.specs.Prelude.{ℕ, Bool, true, cond, List}
+use Rattle.std.specs.Prelude.{ℕ, true, cond, List}
 use Rattle.model.specs.declared.Query.{Query}
 use Rattle.model.specs.Tables.{Net}
 use Rattle.model.specs.Bytes.{Read, legs, bad, read}

@@ -1,14 +1,13 @@
 -- The legs that `read_leg` gives, one behind the other, are those that the bytes are read as.
 -- Assumes nothing.
 use mathlib.Core.Path.{◌≡◌, refl, sym, ap, ◌∙◌, subst}
-use mathlib.Core.Option.{none, some}
-use mathlib.Core.List.{List, [], ◌∷◌}
-use Prim.Native.Nat.{ℕ, zero, suc, ◌+◌, ◌-◌, ◌≤◌, ◌<◌}
+use mathlib.Core.List.{List, []}
+use Prim.Native.Nat.{ℕ, zero, suc, ◌+◌, ◌-◌, ◌≤◌}
 use native.Mathlib.Omega.{arith}
 use lib.ListN.{length, drop, length-drop, drop_of_length-le}
 use lib.Seq.{drop-drop}
 use Rattle.model.specs.declared.Leg.{Leg}
-use Rattle.model.specs.Bytes.{Read, legs, bad, before, leg_size, first_leg, read_from, read}
+use Rattle.model.specs.Bytes.{Read, legs, bad, before, leg_size, read_from, read}
 use Rattle.model.proofs.ReadBack.{read_end, read_stop, read_on}
 use Rattle.journey.specs.declared.LegRead.{LegRead}
 use Rattle.journey.specs.declared.LegRead.TheVariants.{Whole, Bad as NoLeg, End}

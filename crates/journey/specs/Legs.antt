@@ -2,7 +2,6 @@
 use Rattle.std.specs.Prelude.{ℕ, ◌+◌, ◌≡◌, List, [], ◌∷◌}
 use Rattle.model.specs.declared.Leg.{Leg}
 use Rattle.model.specs.Bytes.{leg_size}
-use Rattle.journey.specs.declared.LegRead.{LegRead}
 use Rattle.journey.specs.declared.LegRead.TheVariants.{Whole, End}
 use Rattle.journey.specs.Reading.{leg_from}
 

@@ -1,8 +1,8 @@
 -- A verdict, test by test.
-use Prim.Native.Nat.{ℕ, zero, suc, ◌+◌, ◌-◌, ◌≤◌, ◌<◌}
+use Prim.Native.Nat.{ℕ, zero, suc, ◌+◌, ◌-◌}
 use mathlib.Core.Path.{◌≡◌, refl, sym, ap, ◌∙◌, subst}
 use mathlib.Core.Bool.{Bool, true, false, cond, ◌&&◌}
-use mathlib.Core.List.{List, [], ◌∷◌}
+use mathlib.Core.List.{List, []}
 use mathlib.Core.Logic.{◌≢◌}
 use native.Mathlib.Omega.{arith}
 use lib.Dec.{leb}
@@ -17,7 +17,7 @@ use Rattle.model.specs.declared.Walks.{Walks}
 use Rattle.shared.specs.declared.Time.{Time}
 use Rattle.model.specs.Tables.{Net}
 use Rattle.model.specs.Bytes.{Read, legs, bad, before, read_from, read, leg_size}
-use Rattle.model.specs.Places.{exists, place_stops}
+use Rattle.model.specs.Places.{place_stops}
 use Rattle.model.specs.Answer.{may_walk, refusal, lowest, unless}
 use Rattle.model.proofs.Asking.{passed}
 use Rattle.model.proofs.ReadBack.{first_there, read_end, read_stop, read_on}
@@ -35,10 +35,9 @@ use Rattle.journey.proofs.Told.{told_whole, told_bad, told_end}
 use Rattle.handheld.specs.declared.Led.{Led}
 use Rattle.handheld.specs.declared.Onward.{Onward}
 use Rattle.handheld.specs.declared.Onward.TheVariants.{To, Wrong}
-use Rattle.handheld.specs.declared.Verdict.{Verdict}
 use Rattle.handheld.specs.declared.Verdict.TheVariants.{Yes, No, Bad, Refused}
 use Rattle.handheld.specs.Right.{is_ride, soonest}
-use Rattle.handheld.specs.Verdict.{is_listed, follow, may_begin, may_end, at_start, comes_in, verdict}
+use Rattle.handheld.specs.Verdict.{is_listed, may_begin, may_end, at_start, comes_in, verdict}
 use Rattle.handheld.specs.Judged.{judged_as, judged}
 use Rattle.judge_legs.specs.Reading.{follow_on}
 use Rattle.judge.specs.Places.{HasPlaces, verdict_on}

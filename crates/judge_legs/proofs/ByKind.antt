@@ -1,10 +1,9 @@
 -- A leg by its kind.
-use Prim.Native.Nat.{ℕ, suc, ◌+◌, ◌≤◌, ◌<◌}
-use mathlib.Core.Path.{◌≡◌, refl, sym, ap, ◌∙◌}
-use mathlib.Core.Bool.{Bool, true, false, cond, ◌&&◌}
+use Prim.Native.Nat.{ℕ, ◌+◌, ◌≤◌, ◌<◌}
+use mathlib.Core.Path.{◌≡◌, sym, ap, ◌∙◌}
+use mathlib.Core.Bool.{Bool, true, false}
 use mathlib.Core.Logic.{◌≢◌}
 use native.Mathlib.Numerals.{add-one}
-use lib.Dec.{leb, eqb}
 use borrow.Author.Tests.{eq-eqb, ne_eqb, le-leb, lt-leb}
 use Rattle.model.specs.declared.Leg.{Leg}
 use Rattle.model.specs.declared.LegType.{LegType}
@@ -12,7 +11,6 @@ use Rattle.model.specs.declared.LegType.TheVariants.{Transit, Transfer, Walk}
 use Rattle.model.specs.Limits.{MOST_ROUNDS}
 use Rattle.model.specs.Tables.{Net}
 use Rattle.handheld.specs.declared.Led.{Led}
-use Rattle.handheld.specs.declared.Onward.{Onward}
 use Rattle.handheld.specs.declared.Onward.TheVariants.{To, Wrong}
 use Rattle.handheld.specs.Right.{is_ride}
 use Rattle.handheld.specs.Fitting.{fits_ride, fits_path, fits_leg}

@@ -4,7 +4,7 @@ use Rattle.model.specs.Tables.{Net}
 use Rattle.model.specs.Bytes.{Read, legs, bad}
 use Rattle.handheld.specs.declared.Led.{Led}
 use Rattle.handheld.specs.declared.Onward.{Onward}
-use Rattle.handheld.specs.declared.Onward.TheVariants.{To, Wrong}
+use Rattle.handheld.specs.declared.Onward.TheVariants.{Wrong}
 use Rattle.handheld.specs.Verdict.{follow}
 
 -- what is no legs leads nowhere

@@ -1,27 +1,22 @@
 -- Through the C face: what `kiosk_solve` writes on 0, `kiosk_judge` answers with 0 and tells as a yes, in both modes.
 -- Assumes nothing.
-use Prim.Native.Nat.{ℕ, zero, suc, ◌≤◌, ◌<◌}
-use mathlib.Core.Path.{◌≡◌, refl, sym, ap, ◌∙◌, subst}
-use mathlib.Core.Bool.{Bool, true, false, cond, ◌&&◌}
-use mathlib.Core.List.{List, [], ◌∷◌}
+use Prim.Native.Nat.{ℕ, ◌≤◌}
+use mathlib.Core.Path.{◌≡◌, refl, ap, ◌∙◌}
+use mathlib.Core.List.{List, ◌∷◌}
 use native.Mathlib.Omega.{arith}
-use lib.Dec.{leb, eqb}
+use lib.Dec.{leb}
 use lib.ListN.{length, take, drop}
 use borrow.Author.Tests.{le-leb}
-use Rattle.base.proofs.Choice.{split, and_left, and_right}
+use Rattle.base.proofs.Choice.{split}
 use Rattle.model.specs.declared.Query.{Query}
 use Rattle.model.specs.declared.TimeConstraint.{TimeConstraint}
-use Rattle.model.specs.declared.TimeConstraint.TheVariants.{Departure, Arrival}
 use Rattle.model.specs.Answer.{may_walk, moment_of, refusal}
 use Rattle.model.proofs.Asking.{passed}
 use Rattle.shared.specs.declared.Time.{Time}
 use Rattle.repository.specs.Checked.{check_of}
 use Rattle.repository.specs.NetOf.{net_of}
 use Rattle.raptor.specs.Lent.{Lent}
-use Rattle.raptor.specs.Solved.{Solved}
 use Rattle.raptor.proofs.Promises.{found_accepted}
-use Rattle.handheld.specs.declared.Verdict.{Verdict}
-use Rattle.handheld.specs.declared.Verdict.TheVariants.{Yes}
 use Rattle.handheld.specs.Right.{Ways}
 use Rattle.handheld.specs.Judged.{judged, verdict_number}
 use Rattle.kiosk_words.specs.Words.{place_of, time_of, walks_of, mode_of, query_of}

@@ -3,7 +3,7 @@
 -- Assumes nothing.
 use Prim.Native.Nat.{ℕ, zero, suc, ◌≤◌, ◌<◌}
 use mathlib.Core.Path.{◌≡◌, refl, sym, ap, ◌∙◌, subst}
-use mathlib.Core.Bool.{Bool, true, false, cond, ◌&&◌, ◌||◌, false≢true}
+use mathlib.Core.Bool.{Bool, true, false, cond, ◌&&◌, ◌||◌}
 use mathlib.Core.List.{List, [], ◌∷◌}
 use mathlib.Core.Logic.{◌⊎◌, inl, inr, ◌≢◌}
 use native.Mathlib.Omega.{arith}
@@ -20,7 +20,7 @@ use Rattle.model.specs.Tables.{Net}
 use Rattle.model.specs.Bytes.{Read, legs, bad, read, BadAt}
 use Rattle.model.specs.Limits.{LAST_MOMENT}
 use Rattle.model.specs.Places.{exists, place_stops, barren}
-use Rattle.model.specs.Answer.{may_walk, moment_of, refusal, lowest, unless, searched, legs_of}
+use Rattle.model.specs.Answer.{may_walk, moment_of, refusal, lowest, unless, legs_of}
 use Rattle.model.proofs.ReadBack.{bad_means, bad_is}
 use Rattle.repository.specs.Accepted.{Accepted}
 use Rattle.repository.specs.Checked.{check_of}

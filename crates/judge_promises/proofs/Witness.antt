@@ -1,24 +1,22 @@
 -- Words that meet what the promises suppose: N's, whose journey N1 is right and gets a yes; N9's, which list every footpath both ways, for the
 -- arrival query. Without that the search writes a journey that gets a no (`verdicts`, F3, of handheld/proofs/Worked.antt).
 use Prim.Native.Nat.{ℕ, ◌≤◌}
-use mathlib.Core.Path.{◌≡◌, refl, sym, ap, ◌∙◌}
-use mathlib.Core.Bool.{Bool, true, false}
+use mathlib.Core.Path.{◌≡◌, refl, ap, ◌∙◌}
+use mathlib.Core.Bool.{true}
 use mathlib.Core.List.{List, [], ◌∷◌, ◌++◌}
 use lib.ListN.{length, take}
 use Rattle.base.specs.Tab.{tab}
 use Rattle.model.specs.declared.Answer.{Answer}
 use Rattle.model.specs.declared.Leg.{Leg}
-use Rattle.model.specs.declared.Query.{Query}
 use Rattle.model.specs.Spans.{transfer_span, walk_span}
 use Rattle.model.specs.Lists.{upto, gather}
 use Rattle.model.specs.Places.{exists, or_itself, stops_of_stop, served_of, stops_of_area, place_stops, unserved, barren}
 use Rattle.model.specs.Bytes.{legs, u32, kind_byte, trip_field, write_leg, write, read, read_from, first_leg, uncut, leg_of_body, leg_at, u32_at, before, leg_size, BadAt}
 use Rattle.model.specs.Answer.{may_walk, moment_of, refusal, lowest, unless}
 use Rattle.repository.specs.Sections.{size, sec}
-use Rattle.repository.specs.Accepted.{Accepted}
 use Rattle.repository.specs.Checked.{check_of}
 use Rattle.repository.specs.NetOf.{count, list_of, transfer_row, walk_row, station_of, net_of}
-use Rattle.check_tables.proofs.Examples.{N, N_accepted, N9, N9_accepted}
+use Rattle.check_tables.proofs.Examples.{N, N_accepted, N9}
 use Rattle.check_tables.proofs.Whole.{accepted_is}
 use Rattle.raptor.specs.Lent.{Lent}
 use Rattle.raptor.specs.Solved.{sized, Solved}

@@ -1,14 +1,14 @@
 -- A trip and its positions: what a ride's code asks, and how its two loops go.
-use Prim.Native.Nat.{ℕ, zero, suc, ◌+◌, ◌-◌, ◌≤◌, ◌<◌}
-use mathlib.Core.Path.{◌≡◌, refl, sym, ap, ◌∙◌, subst}
-use mathlib.Core.Bool.{Bool, true, false, ◌&&◌, false≢true}
+use Prim.Native.Nat.{ℕ, suc, ◌+◌, ◌-◌, ◌≤◌, ◌<◌}
+use mathlib.Core.Path.{◌≡◌, sym, ap, ◌∙◌, subst}
+use mathlib.Core.Bool.{Bool, true, false}
 use mathlib.Core.List.{List}
 use mathlib.Core.Logic.{◌≢◌}
 use native.Mathlib.Omega.{arith}
 use native.Mathlib.Numerals.{add-one}
 use lib.Dec.{eqb}
 use borrow.Author.Tests.{eq-eqb, ne_eqb}
-use Rattle.base.proofs.Choice.{split, same_test, and_left, and_right}
+use Rattle.base.proofs.Choice.{split, same_test, and_right}
 use Rattle.model.specs.declared.Leg.{Leg}
 use Rattle.model.specs.Lists.{upto}
 use Rattle.model.specs.Tables.{Net}
@@ -16,7 +16,7 @@ use Rattle.repository.specs.Laid.{Laid}
 use Rattle.repository.specs.Accepted.{Accepted}
 use Rattle.repository.specs.Readable.{Readable}
 use Rattle.repository.specs.NetOf.{net_of}
-use Rattle.repository.specs.Rows.{TripOf, trip_count, route_of_trip, Stands}
+use Rattle.repository.specs.Rows.{trip_count, route_of_trip, Stands}
 use Rattle.repository.proofs.Asked.{accepted_searchable, searchable_readable}
 use Rattle.repository.proofs.Trips.{trip_known, stands}
 use Rattle.repository.proofs.Standing.{standing_in, standing_trip_of, standing_only}

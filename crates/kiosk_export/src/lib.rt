@@ -52,7 +52,10 @@ pub extern "C" fn kiosk_solve(
         (lent words.old marks.old places.old journey.old) answer.old result
         (lent words.new marks.new places.new journey.new) answer.new }
 {
-    kiosk_c::kiosk_solve(tables, words, marks, places, journey, from_kind, from, to_kind, to, when, moment, walks, mode, answer)
+    kiosk_c::kiosk_solve(
+        tables, words, marks, places, journey, from_kind, from, to_kind, to, when, moment, walks,
+        mode, answer,
+    )
 }
 
 // The same, for tables that `kiosk_check` answered with 0.
@@ -78,7 +81,10 @@ pub extern "C" fn kiosk_solve_checked(
         (lent words.old marks.old places.old journey.old) answer.old result
         (lent words.new marks.new places.new journey.new) answer.new }
 {
-    kiosk_c::kiosk_solve_checked(tables, words, marks, places, journey, from_kind, from, to_kind, to, when, moment, walks, mode, answer)
+    kiosk_c::kiosk_solve_checked(
+        tables, words, marks, places, journey, from_kind, from, to_kind, to, when, moment, walks,
+        mode, answer,
+    )
 }
 
 // Reads journey bytes: 0 where they are legs, whose number is told; 13 where they are not, and the offset of the bad leg's first byte is
@@ -121,7 +127,9 @@ pub extern "C" fn kiosk_judge(
     ensures told_after { told.new ≡ judge_left tables.now (query_of from_kind from to_kind to when moment walks 0)
         bytes.now told.old }
 {
-    kiosk_c::judging::kiosk_judge(tables, bytes, from_kind, from, to_kind, to, when, moment, walks, told)
+    kiosk_c::judging::kiosk_judge(
+        tables, bytes, from_kind, from, to_kind, to, when, moment, walks, told,
+    )
 }
 
 // The same, for tables that `kiosk_check` answered with 0.
@@ -144,5 +152,7 @@ pub extern "C" fn kiosk_judge_checked(
     ensures told_after { told.new ≡ judge_left tables.now (query_of from_kind from to_kind to when moment walks 0)
         bytes.now told.old }
 {
-    kiosk_c::judging::kiosk_judge_checked(tables, bytes, from_kind, from, to_kind, to, when, moment, walks, told)
+    kiosk_c::judging::kiosk_judge_checked(
+        tables, bytes, from_kind, from, to_kind, to, when, moment, walks, told,
+    )
 }

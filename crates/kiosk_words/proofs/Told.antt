@@ -1,5 +1,5 @@
 -- The five words of an answer.
-use Prim.Native.Nat.{ℕ, zero, suc, ◌≤◌, ◌<◌}
+use Prim.Native.Nat.{ℕ, ◌≤◌, ◌<◌}
 use mathlib.Core.Path.{◌≡◌, refl}
 use mathlib.Core.List.{List, [], ◌∷◌}
 use native.Mathlib.Omega.{arith}
@@ -7,7 +7,7 @@ use lib.ListN.{length, drop, set}
 use Rattle.shared.specs.declared.Time.{Time}
 use Rattle.model.specs.declared.Answer.{Answer}
 use Rattle.model.specs.declared.Answer.TheVariants.{Found, Refused, NoRouteFound, FailedToBuildRoute, TooLong}
-use Rattle.model.specs.Answer.{Given, given}
+use Rattle.model.specs.Answer.{given}
 use Rattle.kiosk_words.specs.Words.{told_in}
 
 pub five : (a b c d e : ℕ) (l : List ℕ) → 5 ≤ length l

@@ -1,6 +1,6 @@
 -- Every moment of a journey is one of the timetable's, or the end of a listed footpath that left at one: no stand-in for a moment stands in
 -- a leg. For departure and arrival queries alike, both modes, and every order of the proposals.
-use Prim.Native.Nat.{ℕ, ◌+◌, ◌≤◌, ◌<◌}
+use Prim.Native.Nat.{ℕ, ◌≤◌, ◌<◌}
 use mathlib.Core.Path.{◌≡◌, refl}
 use mathlib.Core.Bool.{Bool}
 use mathlib.Core.List.{List}
@@ -14,7 +14,7 @@ use Rattle.model.specs.Limits.{LAST_MOMENT}
 use Rattle.model.specs.State.{Task}
 use Rattle.model.specs.Round.{Order, Fair}
 use Rattle.model.specs.Search.{search}
-use Rattle.model.specs.Back.{near, trace, in_order, journey}
+use Rattle.model.specs.Back.{near, journey}
 use Rattle.model.specs.Journey.{Ridden, Walked, MeetsTrip, Chain, stay, ride_on, walk_on, Dated}
 use Rattle.model.specs.Sound.{Sound, Narrow, Asked}
 use Rattle.model.proofs.Reversed.{order_each}

@@ -4,7 +4,7 @@ use Prim.Native.Nat.{ℕ, zero, suc}
 use mathlib.Core.Option.{Option, none, some}
 use mathlib.Core.List.{List, [], ◌∷◌}
 use Rattle.model.specs.Tables.{Foot, Net}
-use Rattle.model.proofs.Examples.{Trip, Route, Listed, net}
+use Rattle.model.proofs.Examples.{Trip, Route, net}
 
 abbrev pub route : List ℕ → List Trip → Route
 route stops trips = record { stops = stops; trips = trips }

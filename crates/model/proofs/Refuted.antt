@@ -1,9 +1,9 @@
 -- Journeys that nobody can make, which the definitions shut out: a footpath that leaves at a stand-in for a moment, and a reported
 -- departure at which nothing leaves.
-use Prim.Native.Nat.{ℕ, zero, suc, ◌≤◌, ◌<◌}
+use Prim.Native.Nat.{ℕ}
 use mathlib.Core.Path.{◌≡◌}
 use mathlib.Core.Bool.{true}
-use mathlib.Core.List.{List, [], ◌∷◌}
+use mathlib.Core.List.{[], ◌∷◌}
 use native.Mathlib.Omega.{arith}
 use Rattle.model.specs.declared.Direction.TheVariants.{Departure}
 use Rattle.model.specs.declared.Leg.{Leg}

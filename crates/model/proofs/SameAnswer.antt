@@ -1,6 +1,6 @@
 -- Two networks that are the same as far as they exist are answered alike: the same refusal, or the same time, stop, round, legs and length,
 -- and the same workspace left.
-use Prim.Native.Nat.{ℕ, zero, suc, ◌-◌, ◌<◌}
+use Prim.Native.Nat.{ℕ, zero, suc, ◌<◌}
 use mathlib.Core.Path.{◌≡◌, refl, sym, ap, ◌∙◌}
 use mathlib.Core.Bool.{Bool, true, false, ◌&&◌}
 use mathlib.Core.Option.{Option, none, some}

@@ -42,10 +42,10 @@
 --   goals in list order, strict improvements only                      P2, X23
 --   legs in riding order, earlier moment first                         X1, X8, X18
 -- Walking is allowed where a query does not say                        W1
-use Prim.Native.Nat.{ℕ, zero, suc}
+use Prim.Native.Nat.{ℕ}
 use mathlib.Core.Path.{◌≡◌, refl}
-use mathlib.Core.Bool.{Bool, true, false}
-use mathlib.Core.Option.{Option, none, some}
+use mathlib.Core.Bool.{true, false}
+use mathlib.Core.Option.{none, some}
 use mathlib.Core.List.{List, [], ◌∷◌, ◌++◌}
 use lib.ListN.{replicate}
 use lib.Ieee.{Float, of_bits, binary32}
@@ -54,7 +54,6 @@ use Rattle.model.specs.declared.Leg.{Leg}
 use Rattle.model.specs.declared.LegType.TheVariants.{Transit, Transfer, Walk}
 use Rattle.model.specs.declared.Location.{Location}
 use Rattle.model.specs.declared.Location.TheVariants.{Stop, Area}
-use Rattle.model.specs.declared.Mode.{Mode}
 use Rattle.model.specs.declared.Mode.TheVariants.{Source, Rescan}
 use Rattle.model.specs.declared.Query.{Query}
 use Rattle.model.specs.declared.TimeConstraint.TheVariants.{Departure, Arrival}
@@ -62,12 +61,11 @@ use Rattle.model.specs.declared.Walks.TheVariants.{Unsaid, Allowed, Barred}
 use Rattle.model.specs.Moments.{MAX}
 use Rattle.model.specs.Spans.{transfer_span, walk_span}
 use Rattle.shared.specs.Walk.{walking_span}
-use Rattle.model.specs.State.{Labels, Times}
 use Rattle.model.specs.Bytes.{write, read, read_from, first_leg, uncut, leg_of_body, leg_at, u32_at, before}
 use Rattle.model.specs.Answer.{Given, given, given_read, answer, searched, legs_of}
-use Rattle.model.specs.Left.{Workspace, placed, workspace_of, written, journey_left}
+use Rattle.model.specs.Left.{placed, workspace_of, written, journey_left}
 use Rattle.model.proofs.Examples.{N, M, ask, departing, arriving, says, found, refused}
-use Rattle.model.proofs.Networks.{route, foot, line, X1, X2, X3, X3', X5, X6, X7, X8a, X8b, X9a, X9b, X10, X11, X12, X17, X18, X19, X21, X22, X23, P, C, D, W, T, U, Y, Z, K, L, F, O}
+use Rattle.model.proofs.Networks.{foot, line, X1, X2, X3, X3', X5, X6, X7, X8a, X8b, X9a, X9b, X10, X11, X12, X17, X18, X19, X21, X22, X23, P, C, D, W, T, U, Y, Z, K, L, F, O}
 
 -- The form of the list
 

@@ -1,5 +1,5 @@
 -- When two networks are the same network, however they are written down: `Same` and `SamePlaces` as lists, which compute.
-use Rattle.std.specs.Prelude.{ℕ, ◌≡◌}
+use Rattle.std.specs.Prelude.{◌≡◌}
 use Rattle.base.specs.Tab.{tab}
 use Rattle.model.specs.Tables.{Net}
 

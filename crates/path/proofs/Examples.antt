@@ -1,14 +1,14 @@
 -- N1's journey put leg by leg, by computation: where each leg goes, what the buffer then holds, and how often its bytes are put. The same
 -- legs as an arrival search would find them go to the same places, in the other order.
 use mathlib.Core.Path.{◌≡◌, refl}
-use mathlib.Core.List.{List, [], ◌∷◌, ◌++◌, map}
+use mathlib.Core.List.{[], ◌∷◌, ◌++◌, map}
 use lib.ListN.{replicate}
 use Rattle.base.specs.Put.{with_bytes}
 use Rattle.model.specs.declared.Direction.TheVariants.{Departure, Arrival}
 use Rattle.model.specs.declared.Leg.{Leg}
 use Rattle.model.specs.declared.LegType.TheVariants.{Transit, Transfer}
 use Rattle.model.specs.Bytes.{u32, kind_byte, trip_field, write_leg, write, leg_size, size_of}
-use Rattle.path.specs.Once.{Put, places_of, put_all, placed_back, covers, times_put}
+use Rattle.path.specs.Once.{places_of, put_all, placed_back, covers, times_put}
 
 -- document 01's "ride 0 2 0 100 300, transfer 2 3 - 300 330, ride 3 4 2 350 450"
 unfoldable pub first : Leg

@@ -1,14 +1,13 @@
 -- The contract of `solve`, case by case: refused by the tables, by a slice, by the query, or searched.
-use Prim.Native.Nat.{ℕ, zero, suc, ◌+◌, ◌<◌}
-use mathlib.Core.Path.{◌≡◌, refl, sym, ap, ◌∙◌, subst}
-use mathlib.Core.Bool.{Bool, true, false, cond}
+use Prim.Native.Nat.{ℕ, zero, suc}
+use mathlib.Core.Path.{◌≡◌, refl, sym, ap, ◌∙◌}
+use mathlib.Core.Bool.{Bool, true, false}
 use mathlib.Core.List.{List}
 use native.Mathlib.Omega.{arith}
 use lib.ListN.{length}
 use Rattle.model.specs.declared.Answer.{Answer}
-use Rattle.model.specs.declared.Answer.TheVariants.{Found, Refused, NoRouteFound, FailedToBuildRoute, TooLong}
+use Rattle.model.specs.declared.Answer.TheVariants.{Refused}
 use Rattle.model.specs.declared.Query.{Query}
-use Rattle.model.specs.Tables.{Net}
 use Rattle.model.specs.Answer.{refusal, lowest, searched, legs_of, reply, unless, answer}
 use Rattle.model.specs.Left.{written, journey_left}
 use Rattle.repository.specs.Accepted.{Accepted}
@@ -16,7 +15,7 @@ use Rattle.repository.specs.NetOf.{net_of}
 use Rattle.repository.specs.Checked.{check_of}
 use Rattle.check_tables.proofs.Whole.{accepted_is}
 use Rattle.raptor.specs.Lent.{Lent}
-use Rattle.raptor.specs.Solved.{room_for, sized, Ended, WorkspaceLeft, Solved}
+use Rattle.raptor.specs.Solved.{room_for, sized, Solved}
 use Rattle.raptor.specs.Searching.{Ran}
 
 module _ (w : List ℕ) (q : Query) (before : Lent) where

@@ -1,9 +1,8 @@
 -- The lengths that the tables ask for, and slices that have them.
-use Prim.Native.Nat.{ℕ, zero, suc, ◌+◌, ◌≤◌}
-use mathlib.Core.Path.{◌≡◌, refl, sym, ap, ◌∙◌}
+use Prim.Native.Nat.{ℕ, zero, suc, ◌+◌}
+use mathlib.Core.Path.{◌≡◌, refl, sym, ◌∙◌}
 use mathlib.Core.Bool.{Bool, true, false, ◌&&◌}
 use mathlib.Core.List.{List}
-use native.Mathlib.Omega.{arith}
 use lib.Dec.{eqb}
 use lib.ListN.{length}
 use borrow.Author.Tests.{eq-eqb, ne_eqb, eqb-true}
@@ -16,9 +15,8 @@ use Rattle.repository.proofs.Ranges.{stops_few, routes_few}
 use Rattle.check_tables.proofs.Whole.{zero_accepted}
 use Rattle.allocator.specs.Layout.{words_room, marks_room, Sized}
 use Rattle.allocator.proofs.Roomy.{sized_of}
-use Rattle.raptor.specs.declared.Needed.{Needed}
 use Rattle.raptor.specs.declared.Needed.TheVariants.{Lengths, Refused}
-use Rattle.raptor.specs.Solved.{places_room, room_for}
+use Rattle.raptor.specs.Solved.{room_for}
 use Rattle.raptor.specs.Rooms.{room_by, room_of}
 
 -- ---- the tables

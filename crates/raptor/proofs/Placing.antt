@@ -1,12 +1,11 @@
 -- The places of a query that is not refused: they exist, their stops are known, and an area's stand where they were written.
 use Prim.Native.Nat.{ℕ, zero, suc, ◌+◌, ◌-◌, ◌≤◌, ◌<◌}
-use mathlib.Core.Path.{◌≡◌, refl, sym, ap, ◌∙◌, subst}
+use mathlib.Core.Path.{◌≡◌, refl, sym, ap, ◌∙◌}
 use mathlib.Core.Bool.{Bool, true}
 use mathlib.Core.List.{List, [], ◌∷◌, ◌++◌, append_assoc, Memᴰ}
 use native.Mathlib.Omega.{arith}
 use lib.ListN.{length, get_or, take, drop, replicate, length-append, length-replicate}
 use lib.Seq.{take_at, drop_at, length-take-le}
-use Rattle.shared.specs.declared.Time.{Time}
 use Rattle.model.specs.declared.Location.{Location}
 use Rattle.model.specs.declared.Location.TheVariants.{Stop, Area}
 use Rattle.model.specs.declared.Mode.{Mode}
@@ -14,11 +13,11 @@ use Rattle.model.specs.declared.Query.{Query}
 use Rattle.model.specs.declared.TimeConstraint.{TimeConstraint}
 use Rattle.model.specs.declared.TimeConstraint.TheVariants.{Departure, Arrival}
 use Rattle.model.specs.Tables.{Net}
-use Rattle.model.specs.Places.{exists, place_stops, stops_of_area}
+use Rattle.model.specs.Places.{exists, place_stops}
 use Rattle.model.specs.Answer.{may_walk, moment_of, task_by, task_of, refusal}
 use Rattle.model.specs.Left.{placed}
 use Rattle.model.specs.Limits.{MOST_STOPS}
-use Rattle.model.specs.Sound.{Sound, Asked}
+use Rattle.model.specs.Sound.{Asked}
 use Rattle.model.proofs.Asking.{Passed, passed, asked}
 use Rattle.repository.specs.Accepted.{Accepted}
 use Rattle.repository.specs.NetOf.{net_of}

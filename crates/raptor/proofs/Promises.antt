@@ -1,7 +1,7 @@
 -- The three demands, said of what `solve` answers and leaves: each theorem takes its contract, `Solved` of specs/Solved.antt, and
 -- nothing else. w are the tables, q the query; `before` are the words, marks, places and journey buffer as they are lent, `after` as they
 -- are left; r is the answer.
-use Prim.Native.Nat.{ℕ, zero, suc, ◌+◌, ◌≤◌, ◌<◌}
+use Prim.Native.Nat.{ℕ, zero, suc, ◌≤◌, ◌<◌}
 use mathlib.Core.Path.{◌≡◌, refl, sym, ap, ◌∙◌, subst}
 use mathlib.Core.Bool.{Bool, true, false, cond, false≢true}
 use mathlib.Core.Logic.{◌≢◌}
@@ -11,7 +11,7 @@ use lib.Dec.{leb, ltb, eqb}
 use lib.ListN.{length, take, drop}
 use lib.Seq.{take_at, drop_at}
 use borrow.Author.Tests.{eqb-true, eqb-false, leb-true, leb-false}
-use Rattle.base.proofs.Choice.{split, cond_elim}
+use Rattle.base.proofs.Choice.{cond_elim}
 use Rattle.base.specs.Each.{Each}
 use Rattle.shared.specs.declared.Time.{Time}
 use Rattle.model.specs.declared.Answer.{Answer}
@@ -24,10 +24,10 @@ use Rattle.model.specs.declared.TimeConstraint.{TimeConstraint}
 use Rattle.model.specs.declared.TimeConstraint.TheVariants.{Departure, Arrival}
 use Rattle.model.specs.Limits.{MOST_ROUNDS}
 use Rattle.model.specs.Tables.{Net}
-use Rattle.model.specs.State.{Task, Labels, Times, State}
+use Rattle.model.specs.State.{Times}
 use Rattle.model.specs.Work.{Work, work_of, SameTimes}
 use Rattle.model.specs.Places.{place_stops}
-use Rattle.model.specs.Answer.{may_walk, task_of, refusal, lowest, searched, legs_by, legs_of, reply_to, reply, unless, answer, Given, given, answer_of, ran}
+use Rattle.model.specs.Answer.{may_walk, task_of, refusal, lowest, searched, legs_by, legs_of, reply_to, reply, unless, answer, given, answer_of, ran}
 use Rattle.model.specs.Left.{Workspace, workspace_of, written, journey_left}
 use Rattle.model.specs.Bytes.{legs as read_as, write, read, size_of, Fits}
 use Rattle.model.specs.Round.{Order, Fair, listed}
@@ -35,7 +35,7 @@ use Rattle.model.specs.Search.{search}
 use Rattle.model.specs.Back.{trace, journey}
 use Rattle.model.specs.Journey.{Departing, Arriving, BothWays, Dated}
 use Rattle.model.specs.AskedFor.{AskedAt, AskedFor}
-use Rattle.model.specs.Sound.{Sound, Asked}
+use Rattle.model.specs.Sound.{Asked}
 use Rattle.model.proofs.Orders.{listed_fair, same_times}
 use Rattle.model.proofs.Asking.{asked}
 use Rattle.model.proofs.Answers.{unrefused, never_11, lowest_most, answer_of_lem, asked_for}
@@ -54,7 +54,7 @@ use Rattle.path.specs.Once.{places_of, placed_back, times_put}
 use Rattle.path.proofs.Order.{order_size}
 use Rattle.path.proofs.Once.{placed_once, places_apart}
 use Rattle.raptor.specs.Lent.{Lent}
-use Rattle.raptor.specs.Solved.{sized, holds, Ended, WorkspaceLeft, Solved}
+use Rattle.raptor.specs.Solved.{sized, holds, Ended, Solved}
 
 -- what an answer 0 says of the target and of the legs
 record FoundBy (room : ℕ) (aimed : Target) (gs : List Leg) (time : Time) (s k z : ℕ) : Type 0 where

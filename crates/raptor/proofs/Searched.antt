@@ -1,7 +1,7 @@
 -- The search of a query, in the shapes that the functions ask for.
 use Prim.Native.Nat.{ℕ, ◌<◌}
 use mathlib.Core.Path.{◌≡◌, refl, sym, ap, ◌∙◌, subst}
-use mathlib.Core.Bool.{Bool, true}
+use mathlib.Core.Bool.{Bool}
 use mathlib.Core.List.{List}
 use native.Mathlib.Omega.{arith}
 use Rattle.shared.specs.declared.Time.{Time}
@@ -15,7 +15,7 @@ use Rattle.model.specs.declared.TimeConstraint.{TimeConstraint}
 use Rattle.model.specs.declared.TimeConstraint.TheVariants.{Departure, Arrival}
 use Rattle.model.specs.Tables.{Net}
 use Rattle.model.specs.State.{Task, task, State}
-use Rattle.model.specs.Places.{exists, place_stops, stops_of_area}
+use Rattle.model.specs.Places.{place_stops}
 use Rattle.model.specs.Answer.{may_walk, moment_of, task_by, task_of, refusal, searched}
 use Rattle.model.specs.Round.{listed}
 use Rattle.model.specs.Search.{search}

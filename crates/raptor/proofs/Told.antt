@@ -1,15 +1,12 @@
 -- What a search that has run is told as: the journey traced from the target, and the workspace as it stands.
-use Prim.Native.Nat.{ℕ, ◌+◌, ◌<◌}
+use Prim.Native.Nat.{ℕ, ◌<◌}
 use mathlib.Core.Path.{◌≡◌, refl, sym, ap, ◌∙◌, subst}
 use mathlib.Core.Bool.{Bool}
 use mathlib.Core.List.{List, ◌++◌}
-use mathlib.Core.Option.{Option}
-use native.Mathlib.Omega.{arith}
 use lib.ListN.{length, take, drop}
 use lib.Seq.{take_at, drop_at}
 use Rattle.model.specs.declared.Answer.{Answer}
 use Rattle.model.specs.declared.Direction.{Direction}
-use Rattle.model.specs.declared.Leg.{Leg}
 use Rattle.model.specs.declared.Mode.{Mode}
 use Rattle.model.specs.declared.Query.{Query}
 use Rattle.model.specs.declared.Target.{Target}
@@ -17,11 +14,11 @@ use Rattle.model.specs.declared.TimeConstraint.{TimeConstraint}
 use Rattle.model.specs.declared.TimeConstraint.TheVariants.{Departure, Arrival}
 use Rattle.model.specs.Limits.{MOST_ROUNDS}
 use Rattle.model.specs.Tables.{Net}
-use Rattle.model.specs.State.{Task, State}
-use Rattle.model.specs.Work.{Work, work_of, state_of}
-use Rattle.model.specs.Back.{trace, in_order, journey}
+use Rattle.model.specs.State.{State}
+use Rattle.model.specs.Work.{work_of, state_of}
+use Rattle.model.specs.Back.{trace, journey}
 use Rattle.model.specs.Answer.{may_walk, task_by, task_of, refusal, searched, legs_of, reply}
-use Rattle.model.specs.Left.{Workspace, placed, workspace_of, written}
+use Rattle.model.specs.Left.{placed, workspace_of, written}
 use Rattle.model.specs.Places.{place_stops}
 use Rattle.model.specs.Round.{listed}
 use Rattle.model.proofs.Asking.{asked}

@@ -1,6 +1,6 @@
 -- Two results that meet the contract of `solve`, or of `run` below it, are equal: the answer, and every word and byte of everything lent.
 -- "two results meeting the statement are proved equal".
-use Prim.Native.Nat.{ℕ, zero, suc, ◌<◌}
+use Prim.Native.Nat.{ℕ, zero, suc}
 use mathlib.Core.Path.{◌≡◌, refl, sym, ap, ◌∙◌}
 use mathlib.Core.List.{List, ◌++◌}
 use native.Mathlib.Omega.{arith}
@@ -8,12 +8,10 @@ use lib.ListN.{take, drop, take-append-drop}
 use Rattle.model.specs.declared.Answer.{Answer}
 use Rattle.model.specs.declared.Query.{Query}
 use Rattle.model.specs.Tables.{Net}
-use Rattle.model.specs.Work.{Work}
 use Rattle.model.specs.Answer.{lowest, legs_of}
 use Rattle.model.specs.Left.{Workspace, written}
 use Rattle.repository.specs.NetOf.{net_of}
 use Rattle.repository.specs.Checked.{check_of}
-use Rattle.allocator.specs.Layout.{view}
 use Rattle.allocator.proofs.Same.{same_words}
 use Rattle.raptor.specs.Lent.{Lent}
 use Rattle.raptor.specs.Solved.{sized, holds, Ended, WorkspaceLeft, Solved}

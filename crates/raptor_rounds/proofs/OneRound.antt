@@ -1,27 +1,26 @@
 -- One round of the program is the model's, and what the model knows of it is what its parts ask.
-use Prim.Native.Nat.{ℕ, zero, suc, ◌+◌, ◌-◌, ◌*◌, ◌≤◌, ◌<◌}
+use Prim.Native.Nat.{ℕ, suc, ◌+◌, ◌*◌, ◌≤◌, ◌<◌}
 use mathlib.Core.Path.{◌≡◌, refl, sym, ap, ◌∙◌, subst}
 use mathlib.Core.Bool.{Bool, true, false}
 use mathlib.Core.List.Memᴰ
 use mathlib.Core.List.{List, [], ◌∷◌, Memᴰ}
 use native.Mathlib.Omega.{arith}
 use native.Mathlib.Nat.{mul-le-mul_right}
-use lib.ListN.{length, get_or}
+use lib.ListN.{length}
 use Rattle.model.specs.declared.Direction.{Direction}
 use Rattle.model.specs.declared.Mode.{Mode}
 use Rattle.model.specs.declared.Target.{Target}
 use Rattle.model.specs.Tables.{Net}
 use Rattle.model.specs.Limits.{MOST_ROUNDS}
-use Rattle.model.specs.Lists.{any_of, set_in}
-use Rattle.model.specs.State.{Task, task, Labels, Times, State}
+use Rattle.model.specs.Lists.{any_of}
+use Rattle.model.specs.State.{task}
 use Rattle.model.specs.Work.{Work, work_of, state_of}
 use Rattle.model.specs.Round.{aim, listed, picks, opened, ridden, footed, aimed as aimed_times, round_times, round, ride_half, ridden_parents}
 use Rattle.model.specs.Search.{begun, ended, search}
-use Rattle.model.specs.Sound.{Sound, Asked}
+use Rattle.model.specs.Sound.{Sound}
 use Rattle.model.proofs.Orders.{listed_fair}
 use Rattle.model.specs.Choosing.{Placed}
 use Rattle.model.proofs.Choosing.{picks_placed}
-use Rattle.model.proofs.Search.{Inv}
 use Rattle.allocator.specs.Operations.{cleared, swapped, holding}
 use Rattle.allocator.specs.Repeated.{started_all}
 use Rattle.allocator.proofs.Links.{begun_is, ended_is}

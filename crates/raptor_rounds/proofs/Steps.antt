@@ -1,6 +1,6 @@
 -- The steps of a round, one after the other: each law in the shape of what `next_round` and its parts ask.
 use Prim.Native.Nat.{ℕ, ◌<◌}
-use mathlib.Core.Path.{◌≡◌, refl, sym, ap, ◌∙◌, subst}
+use mathlib.Core.Path.{◌≡◌, sym, ap, ◌∙◌, subst}
 use mathlib.Core.Bool.{Bool}
 use mathlib.Core.List.{List}
 use Rattle.model.specs.declared.Direction.{Direction}
@@ -11,7 +11,7 @@ use Rattle.model.specs.Work.{Work}
 use Rattle.model.specs.Choosing.{Placed}
 use Rattle.repository.specs.NetOf.{net_of}
 use Rattle.allocator.specs.Layout.{view}
-use Rattle.allocator.specs.Does.{Usable, Does}
+use Rattle.allocator.specs.Does.{Does}
 use Rattle.allocator.specs.Operations.{holding}
 use Rattle.explorer.specs.declared.Round.{Round}
 use Rattle.explorer.specs.Fixed.{Fixed, InRound}

@@ -1,6 +1,6 @@
 -- A stop's route list is exact: it names the routes that contain the stop, ascending, each with the stop's first
 -- position in it.
-use Prim.Native.Nat.{ℕ, zero, suc, ◌+◌, ◌-◌, ◌*◌, ◌≤◌, ◌<◌}
+use Prim.Native.Nat.{ℕ, zero, suc, ◌+◌, ◌-◌, ◌≤◌, ◌<◌}
 use mathlib.Core.Path.{◌≡◌, refl, sym, ap, ◌∙◌}
 use mathlib.Core.List.{List, Memᴰ}
 use native.Mathlib.Omega.{arith}

@@ -1,9 +1,8 @@
 -- Searchable tables are within the limits that keep every value of a leg a u32.
-use Prim.Native.Nat.{ℕ, ◌+◌, ◌≤◌, ◌<◌}
-use mathlib.Core.Path.{◌≡◌, refl, ap}
+use Prim.Native.Nat.{ℕ, ◌≤◌, ◌<◌}
+use mathlib.Core.Path.{refl, ap}
 use mathlib.Core.List.Memᴰ
 use mathlib.Core.List.{List, Memᴰ}
-use native.Mathlib.Omega.{arith}
 use Rattle.model.specs.declared.LegType.{LegType}
 use Rattle.model.specs.declared.LegType.TheVariants.{Transit, Transfer, Walk}
 use Rattle.model.specs.Tables.{Foot}

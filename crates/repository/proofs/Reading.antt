@@ -24,7 +24,7 @@ use Rattle.repository.specs.Rows.{Listing, calls, transfers, walks, starts_of, w
 use Rattle.repository.specs.Rows.{trip_count, time_count}
 use Rattle.repository.specs.Station.{station_is}
 use Rattle.repository.proofs.Tabs.{tab_shift}
-use Rattle.repository.proofs.Rooms.{room, row_room, stop_of_route, trip_of_route, past_in}
+use Rattle.repository.proofs.Rooms.{room, row_room, trip_of_route, past_in}
 
 pub list_entry : {w : List ℕ} {k i : ℕ} → EntryWords w k i → Entry w k i
 list_entry l = l.entry

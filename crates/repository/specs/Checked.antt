@@ -1,5 +1,5 @@
 -- Numbers 3, 4 and 5, and the check: "The lowest refusal that applies is given". Each number is tested on tables that have no lower one.
-use Rattle.std.specs.Prelude.{ℕ, ◌+◌, ◌-◌, ◌*◌, Bool, cond, ◌&&◌, ◌||◌, List, leb, eqb}
+use Rattle.std.specs.Prelude.{ℕ, ◌+◌, ◌-◌, Bool, cond, ◌&&◌, ◌||◌, List, leb, eqb}
 use Rattle.shared.specs.Walk.{stretch}
 use Rattle.base.specs.All.{all}
 use Rattle.model.specs.Moments.{MAX}

@@ -1,6 +1,6 @@
 -- Number 1: "a count over its limit, a route without a stop, a slice of wrong length". Tables without it are laid: every index that a reader
 -- computes is in range.
-use Rattle.std.specs.Prelude.{ℕ, ◌+◌, ◌-◌, ◌*◌, ◌%◌, ◌≤◌, ◌<◌, ◌≡◌, Bool, ◌&&◌, List, leb, eqb, length}
+use Rattle.std.specs.Prelude.{ℕ, ◌+◌, ◌*◌, ◌%◌, ◌≤◌, ◌<◌, ◌≡◌, Bool, ◌&&◌, List, leb, eqb, length}
 use Rattle.base.specs.All.{all}
 use Rattle.model.specs.Limits.{MOST_STOPS, MOST_ROUTES, MOST_POSITIONS, MOST_TRIPS, MOST_STOP_TIMES}
 use Rattle.model.specs.Limits.{MOST_TRANSFERS, MOST_WALKS, MOST_AREAS, MOST_AREA_ENTRIES}

@@ -1,6 +1,6 @@
 -- Number 2: "an index out of range, or a list breaking a listing rule". Tested on laid tables. Each test of one number or one row has a name,
 -- so that the code that makes it can say so.
-use Rattle.std.specs.Prelude.{ℕ, ◌+◌, ◌-◌, ◌*◌, Bool, true, false, cond, ◌&&◌, ◌||◌, List, ltb, leb, eqb}
+use Rattle.std.specs.Prelude.{ℕ, ◌+◌, ◌-◌, Bool, true, false, cond, ◌&&◌, ◌||◌, List, ltb, leb, eqb}
 use Rattle.base.specs.All.{all}
 use Rattle.model.specs.Moments.{MAX}
 use Rattle.repository.specs.Sections.{size, sec, stops, routes, trips, areas, rows, CHILD_STARTS, CHILDREN}

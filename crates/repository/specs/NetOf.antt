@@ -1,11 +1,11 @@
 -- The network that the words hold.
-use Rattle.std.specs.Prelude.{ℕ, ◌+◌, ◌-◌, ◌*◌, Bool, cond, List, eqb}
+use Rattle.std.specs.Prelude.{ℕ, ◌+◌, ◌-◌, cond, List, eqb}
 use Rattle.std.proofs.Math.Option.{Option, none, some}
 use Rattle.base.specs.Tab.{tab}
 use Rattle.model.specs.Moments.{MAX}
 use Rattle.model.specs.Spans.{transfer_span, walk_span}
 use Rattle.model.specs.Tables.{Foot, Net}
-use Rattle.repository.specs.Sections.{sec, stops, routes, trips, areas, CHILD_STARTS, CALL_STARTS, TRANSFER_STARTS}
+use Rattle.repository.specs.Sections.{sec, stops, routes, areas, CHILD_STARTS, CALL_STARTS, TRANSFER_STARTS}
 use Rattle.repository.specs.Sections.{WALK_STARTS, ROUTE_STOP_STARTS, ROUTE_TRIP_STARTS, TIME_STARTS, AREA_STARTS}
 use Rattle.repository.specs.Sections.{station_at, served_at, child_at, area_stop_at, call_route, transfer_to, transfer_stated}
 use Rattle.repository.specs.Sections.{transfer_metres, walk_to, walk_metres, stop_on, trip_on, arrival_in, departure_in}

@@ -1,5 +1,5 @@
 -- Rows as callers know them: numbers, and what a row says. Where a row stands in the words, only this crate knows.
-use Rattle.std.specs.Prelude.{ℕ, ◌+◌, ◌-◌, ◌*◌, ◌≤◌, ◌<◌, ◌≡◌, List}
+use Rattle.std.specs.Prelude.{ℕ, ◌+◌, ◌-◌, ◌≤◌, ◌<◌, ◌≡◌, List}
 use Rattle.base.specs.Tab.{tab}
 use Rattle.model.specs.Tables.{Net}
 use Rattle.repository.specs.Sections.{sec, trips, rows, CALL_STARTS, TRANSFER_STARTS, WALK_STARTS, TIME_STARTS, TIMES}

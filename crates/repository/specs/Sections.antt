@@ -1,6 +1,6 @@
 -- The flat tables: a header of 21 words, then 20 sections, each beginning where the one before ends. Nobody above this crate knows it.
 -- Every number of the layout stands in this file and, for code, in sections.rt, and nowhere else.
-use Rattle.std.specs.Prelude.{ℕ, ◌+◌, ◌-◌, ◌*◌, ◌/◌, List, length, get_or, Float}
+use Rattle.std.specs.Prelude.{ℕ, ◌+◌, ◌-◌, ◌*◌, ◌/◌, List, get_or, Float}
 use Rattle.std.specs.Float.Ieee.{of_bits}
 use Rattle.std.specs.Float.{binary32}
 

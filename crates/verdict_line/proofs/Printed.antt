@@ -1,12 +1,11 @@
 -- The line of a verdict, written part by part; and that what is judged has one. Assumes nothing.
 use Prim.Native.Nat.{ℕ, zero, suc, ◌+◌, ◌^◌, ◌≤◌, ◌<◌}
-use mathlib.Core.Path.{◌≡◌, refl, sym, ap, ◌∙◌}
+use mathlib.Core.Path.{◌≡◌, refl, ap, ◌∙◌}
 use mathlib.Core.Bool.{Bool, true, false, cond}
 use mathlib.Core.List.{List, [], ◌∷◌, ◌++◌}
 use native.Mathlib.Omega.{arith}
 use lib.ListN.{length, set, length-append}
 use Rattle.base.specs.Put.{with_bytes}
-use Rattle.base.proofs.Choice.{split}
 use Rattle.base.proofs.Put.{put_then, put_one, put_four, put_length}
 use Rattle.numbers.specs.Decimal.{digits}
 use Rattle.numbers.proofs.Written.{digits_few}

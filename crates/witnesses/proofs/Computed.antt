@@ -1,9 +1,8 @@
 -- What the words of networks N and N9 hold, and what the search of document 01 makes of N1's and N9's question, by computation.
-use Prim.Native.Nat.{ℕ, zero, suc, ◌+◌, ◌≤◌}
+use Prim.Native.Nat.{ℕ, ◌≤◌}
 use mathlib.Core.Path.{◌≡◌, refl}
-use mathlib.Core.Bool.{Bool, true, false, cond}
+use mathlib.Core.Bool.{true}
 use mathlib.Core.List.{List, [], ◌∷◌}
-use lib.Dec.{leb}
 use lib.ListN.{replicate, length-replicate}
 use borrow.Author.Tests.{le-leb, eq-eqb}
 use Rattle.base.specs.Tab.{tab}
@@ -20,7 +19,7 @@ use Rattle.model.specs.declared.Walks.TheVariants.{Unsaid}
 use Rattle.model.specs.Tables.{Net}
 use Rattle.model.specs.Alike.{Alike}
 use Rattle.model.specs.Spans.{transfer_span, walk_span}
-use Rattle.model.specs.Answer.{given, answer, legs_of}
+use Rattle.model.specs.Answer.{answer, legs_of}
 use Rattle.model.specs.Moments.{or_max, reading, better, ahead}
 use Rattle.model.specs.Lists.{upto, downto, gather, set_in, any_of}
 use Rattle.model.specs.Applying.{wins, store, apply1, apply_all, keep_all}

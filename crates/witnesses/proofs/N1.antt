@@ -11,7 +11,6 @@ use Rattle.model.specs.declared.Answer.{Answer}
 use Rattle.model.specs.declared.Answer.TheVariants.{Found, TooLong}
 use Rattle.model.specs.declared.Leg.{Leg}
 use Rattle.model.specs.declared.Query.{Query}
-use Rattle.model.specs.Tables.{Net}
 use Rattle.model.specs.Bytes.{legs, write, read}
 use Rattle.model.specs.Answer.{may_walk, task_of, searched, legs_by, answer, ran}
 use Rattle.model.specs.Work.{SameTimes}
@@ -24,7 +23,6 @@ use Rattle.model.proofs.Examples.{N as listed_N}
 use Rattle.model.proofs.Alike.{alike_answered}
 use Rattle.repository.specs.Accepted.{Accepted}
 use Rattle.repository.specs.NetOf.{net_of}
-use Rattle.repository.specs.Checked.{check_of}
 use Rattle.repository.proofs.Sound.{accepted_sound, accepted_sound_places}
 use Rattle.check_tables.proofs.Examples.{N, N_accepted}
 use Rattle.check_tables.proofs.Whole.{accepted_is}

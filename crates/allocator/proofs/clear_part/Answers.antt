@@ -1,6 +1,5 @@
 -- `allocator::clear_part` meets its contract: the part that was lent comes back cleared.
 -- Assumes nothing.
-use borrow.Author.Rules.{rules}
 use Rattle.allocator.proofs.Part.{part_cleared}
 use Rattle.allocator.proofs.clear_part.Goals as goal
 

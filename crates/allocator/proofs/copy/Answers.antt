@@ -1,10 +1,7 @@
 -- `allocator::copy` meets its contract: after each turn i words are copied; what is read was not written before.
 -- Assumes nothing.
 use borrow.Author.Rules.{rules}
-use mathlib.Core.Path.{◌≡◌}
-use Prim.Native.Nat.{◌-◌, ◌≤◌}
-use lib.ListN.{length}
-use Rattle.allocator.proofs.Loops.{Copied, copy_start, copy_step, copy_end}
+use Rattle.allocator.proofs.Loops.{copy_start, copy_step, copy_end}
 use Rattle.allocator.proofs.copy.Goals as goal
 
 pub loop-i-init : goal.loop-i-init

@@ -1,10 +1,9 @@
 -- `allocator::copy_marks` meets its contract: after each turn i words are copied; what is read was not written before.
 -- Assumes nothing.
-use borrow.Author.Rules.{rules}
 use mathlib.Core.Path.{◌≡◌}
 use Prim.Native.Nat.{◌-◌, ◌≤◌}
 use lib.ListN.{length}
-use Rattle.allocator.proofs.Loops.{Copied, copy_start, copy_step, copy_end}
+use Rattle.allocator.proofs.Loops.{Copied}
 use Rattle.allocator.proofs.copy_marks.Given as goal
 
 abbrev pub invariant-loop-i : goal.invariant-loop-i

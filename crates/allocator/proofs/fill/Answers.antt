@@ -1,10 +1,7 @@
 -- `allocator::fill` meets its contract: after each turn the words from a up to below i are v.
 -- Assumes nothing.
 use borrow.Author.Rules.{rules}
-use mathlib.Core.Path.{◌≡◌}
-use Prim.Native.Nat.{◌-◌, ◌≤◌}
-use lib.ListN.{length}
-use Rattle.allocator.proofs.Loops.{Filled, fill_start, fill_step, fill_end}
+use Rattle.allocator.proofs.Loops.{fill_start, fill_step, fill_end}
 use Rattle.allocator.proofs.fill.Goals as goal
 
 pub loop-i-init : goal.loop-i-init

@@ -1,10 +1,9 @@
 -- `allocator::fill` meets its contract: after each turn the words from a up to below i are v.
 -- Assumes nothing.
-use borrow.Author.Rules.{rules}
 use mathlib.Core.Path.{◌≡◌}
 use Prim.Native.Nat.{◌-◌, ◌≤◌}
 use lib.ListN.{length}
-use Rattle.allocator.proofs.Loops.{Filled, fill_start, fill_step, fill_end}
+use Rattle.allocator.proofs.Loops.{Filled}
 use Rattle.allocator.proofs.fill.Given as goal
 
 abbrev pub invariant-loop-i : goal.invariant-loop-i

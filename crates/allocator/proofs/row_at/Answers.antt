@@ -1,6 +1,5 @@
 -- `allocator::row_at` meets its contract: the one product of two numbers, and its bound.
 -- Assumes nothing.
-use borrow.Author.Rules.{rules}
 use native.Mathlib.Omega.{arith}
 use Rattle.allocator.proofs.Read.{row_in}
 use Rattle.allocator.proofs.row_at.Goals as goal

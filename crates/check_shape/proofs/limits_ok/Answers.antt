@@ -1,5 +1,4 @@
 -- `limits_ok`: the answer joins its tests as the definition does.
-use borrow.Author.Rules.{rules}
 use lib.Dec.{lit<}
 use Rattle.check_shape.proofs.Tests.{limited_is}
 use Rattle.check_shape.proofs.limits_ok.Goals as goal

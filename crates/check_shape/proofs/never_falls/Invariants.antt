@@ -1,11 +1,7 @@
 -- `never_falls`: the loop stops at the first word that falls.
-use borrow.Author.Rules.{rules}
 use Prim.Native.Nat.{◌-◌}
 use Rattle.base.specs.All.{So}
-use Rattle.base.proofs.All.{so_start}
 use Rattle.check_shape.specs.Shape.{no_fall}
-use Rattle.check_shape.proofs.Loops.{loop_on, loop_fails, loop_passes}
-use Rattle.check_shape.proofs.Tests.{no_fall_lem, a_fall}
 use Rattle.check_shape.proofs.never_falls.Given as goal
 
 abbrev pub invariant-loop-i : goal.invariant-loop-i

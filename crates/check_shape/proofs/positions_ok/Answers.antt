@@ -1,9 +1,6 @@
 -- `positions_ok`: the loop stops at the first route that does not pass.
 use borrow.Author.Rules.{rules}
-use Prim.Native.Nat.{◌-◌}
-use Rattle.base.specs.All.{So}
 use Rattle.base.proofs.All.{so_start}
-use Rattle.check_shape.specs.Shape.{route_fits}
 use Rattle.check_shape.proofs.Loops.{loop_on, loop_fails, loop_passes}
 use Rattle.check_shape.proofs.Tests.{positioned_is}
 use Rattle.check_shape.proofs.positions_ok.Goals as goal

@@ -1,5 +1,4 @@
 -- `route_ok`: the answer joins its tests as the definition does.
-use borrow.Author.Rules.{rules}
 use Rattle.check_shape.proofs.Tests.{route_fits_is}
 use Rattle.check_shape.proofs.route_ok.Goals as goal
 

@@ -1,5 +1,4 @@
 -- `sizes_ok`: the answer joins its tests as the definition does.
-use borrow.Author.Rules.{rules}
 use lib.Dec.{lit<}
 use Rattle.check_shape.proofs.Tests.{sized_is}
 use Rattle.check_shape.proofs.sizes_ok.Goals as goal

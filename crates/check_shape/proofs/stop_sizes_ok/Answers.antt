@@ -1,5 +1,4 @@
 -- `stop_sizes_ok`: the answer joins its tests as the definition does.
-use borrow.Author.Rules.{rules}
 use lib.Dec.{lit<}
 use Rattle.check_shape.proofs.Tests.{stop_sized_is}
 use Rattle.check_shape.proofs.stop_sizes_ok.Goals as goal

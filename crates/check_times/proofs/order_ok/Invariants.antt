@@ -1,13 +1,11 @@
 -- `order_ok`: as `times_ok`, and the innermost loop keeps the times of the trip before.
-use borrow.Author.Rules.{rules}
 use mathlib.Core.Path.{◌≡◌}
 use mathlib.Core.Bool.{true}
 use Prim.Native.Nat.{◌-◌}
 use Rattle.repository.specs.NetOf.{net_of}
 use Rattle.repository.specs.Checked.{behind}
-use Rattle.check_times.proofs.Walk.{OnRoutes, OnPositions, OnTrips, routes_start, routes_end}
-use Rattle.check_times.proofs.Walk.{positions_start, positions_end, trips_start, trips_end, trips_on, fault}
-use Rattle.check_times.proofs.Tests.{Last, last_start, last_on, behind_is, ordered_is}
+use Rattle.check_times.proofs.Walk.{OnRoutes, OnPositions, OnTrips}
+use Rattle.check_times.proofs.Tests.{Last}
 use Rattle.check_times.proofs.order_ok.Given as goal
 
 abbrev pub invariant-loop-i : goal.invariant-loop-i

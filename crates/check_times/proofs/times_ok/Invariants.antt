@@ -1,13 +1,10 @@
 -- `times_ok`: three loops, each of which holds the one around it, and the fault that leaves them all.
-use borrow.Author.Rules.{rules}
 use mathlib.Core.Path.{◌≡◌}
 use mathlib.Core.Bool.{true}
 use Prim.Native.Nat.{◌-◌}
 use Rattle.repository.specs.NetOf.{net_of}
 use Rattle.repository.specs.Checked.{timely}
-use Rattle.check_times.proofs.Walk.{OnRoutes, OnPositions, OnTrips, routes_start, routes_end}
-use Rattle.check_times.proofs.Walk.{positions_start, positions_end, trips_start, trips_end, trips_on, fault}
-use Rattle.repository.specs.Checked.{timed}
+use Rattle.check_times.proofs.Walk.{OnRoutes, OnPositions, OnTrips}
 use Rattle.check_times.proofs.times_ok.Given as goal
 
 abbrev pub invariant-loop-i : goal.invariant-loop-i

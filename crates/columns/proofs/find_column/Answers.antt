@@ -1,9 +1,8 @@
 -- `columns::find_column` meets its contract: where the column stands among the fields so far.
 -- Assumes nothing.
 use borrow.Author.Rules.{rules}
-use Prim.Native.Nat.{◌-◌}
 use Rattle.columns.proofs.Passing.{text_ordered, text_inside, less_left}
-use Rattle.columns.proofs.Finding.{Found, found_start, found_on, column_wrong, column_last}
+use Rattle.columns.proofs.Finding.{found_start, found_on, column_wrong, column_last}
 use Rattle.columns.proofs.find_column.Goals as goal
 
 pub loop-f-init : goal.loop-f-init

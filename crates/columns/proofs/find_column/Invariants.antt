@@ -1,9 +1,7 @@
 -- `columns::find_column` meets its contract: where the column stands among the fields so far.
 -- Assumes nothing.
-use borrow.Author.Rules.{rules}
 use Prim.Native.Nat.{◌-◌}
-use Rattle.columns.proofs.Passing.{text_ordered, text_inside, less_left}
-use Rattle.columns.proofs.Finding.{Found, found_start, found_on, column_wrong, column_last}
+use Rattle.columns.proofs.Finding.{Found}
 use Rattle.columns.proofs.find_column.Given as goal
 
 abbrev pub invariant-loop-f : goal.invariant-loop-f

@@ -1,6 +1,5 @@
 -- `columns::kept` meets its contract: a span at a time.
 -- Assumes nothing.
-use borrow.Author.Rules.{rules}
 use Rattle.columns.specs.Keeping.{kept_at}
 use Rattle.columns.proofs.kept.Goals as goal
 

@@ -1,9 +1,8 @@
 -- `columns::pick` meets its contract: what is kept are the wanted texts of the fields so far.
 -- Assumes nothing.
 use borrow.Author.Rules.{rules}
-use Prim.Native.Nat.{◌-◌}
 use Rattle.columns.proofs.Passing.{less_left}
-use Rattle.columns.proofs.Gathering.{Gathered, gathered_start, gathered_on, pick_wrong, pick_last, spans_more}
+use Rattle.columns.proofs.Gathering.{gathered_start, gathered_on, pick_wrong, pick_last, spans_more}
 use Rattle.columns.proofs.pick.Goals as goal
 
 pub loop-f-init : goal.loop-f-init

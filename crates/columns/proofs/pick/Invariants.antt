@@ -1,9 +1,7 @@
 -- `columns::pick` meets its contract: what is kept are the wanted texts of the fields so far.
 -- Assumes nothing.
-use borrow.Author.Rules.{rules}
 use Prim.Native.Nat.{◌-◌}
-use Rattle.columns.proofs.Passing.{less_left}
-use Rattle.columns.proofs.Gathering.{Gathered, gathered_start, gathered_on, pick_wrong, pick_last, spans_more}
+use Rattle.columns.proofs.Gathering.{Gathered}
 use Rattle.columns.proofs.pick.Given as goal
 
 abbrev pub invariant-loop-f : goal.invariant-loop-f

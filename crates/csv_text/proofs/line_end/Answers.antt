@@ -1,9 +1,7 @@
 -- `csv_text::line_end` meets its contract: the bytes behind are the line so far.
 -- Assumes nothing.
 use borrow.Author.Rules.{rules}
-use Prim.Native.Nat.{◌-◌}
-use lib.ListN.{length}
-use Rattle.csv_text.proofs.Lining.{Seeking, seeking_start, seeking_on, seeking_found, seeking_end, behind_found, behind_end}
+use Rattle.csv_text.proofs.Lining.{seeking_start, seeking_on, seeking_found, seeking_end, behind_found, behind_end}
 use Rattle.csv_text.proofs.line_end.Goals as goal
 
 pub loop-i-init : goal.loop-i-init

@@ -1,9 +1,7 @@
 -- `csv_text::plain_field` meets its contract: the bytes behind are the text so far.
 -- Assumes nothing.
 use borrow.Author.Rules.{rules}
-use Prim.Native.Nat.{◌-◌}
-use Rattle.csv_text.specs.Fields.{plain}
-use Rattle.csv_text.proofs.Scanning.{Going, going_start, plain_on, plain_comma, plain_quote, plain_end}
+use Rattle.csv_text.proofs.Scanning.{going_start, plain_on, plain_comma, plain_quote, plain_end}
 use Rattle.csv_text.proofs.plain_field.Goals as goal
 
 pub loop-i-init : goal.loop-i-init

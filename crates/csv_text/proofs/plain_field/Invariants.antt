@@ -1,9 +1,8 @@
 -- `csv_text::plain_field` meets its contract: the bytes behind are the text so far.
 -- Assumes nothing.
-use borrow.Author.Rules.{rules}
 use Prim.Native.Nat.{◌-◌}
 use Rattle.csv_text.specs.Fields.{plain}
-use Rattle.csv_text.proofs.Scanning.{Going, going_start, plain_on, plain_comma, plain_quote, plain_end}
+use Rattle.csv_text.proofs.Scanning.{Going}
 use Rattle.csv_text.proofs.plain_field.Given as goal
 
 abbrev pub invariant-loop-i : goal.invariant-loop-i

@@ -1,10 +1,7 @@
 -- `csv_text::quoted_field` meets its contract: the bytes behind are the text so far.
 -- Assumes nothing.
 use borrow.Author.Rules.{rules}
-use Prim.Native.Nat.{◌-◌}
-use mathlib.Core.Bool.{false}
-use Rattle.csv_text.specs.Fields.{quoted}
-use Rattle.csv_text.proofs.Scanning.{Going, going_start, quoted_on, quoted_open, quoted_last, quoted_comma, quoted_wrong, quoted_twice}
+use Rattle.csv_text.proofs.Scanning.{going_start, quoted_on, quoted_open, quoted_last, quoted_comma, quoted_wrong, quoted_twice}
 use Rattle.csv_text.proofs.quoted_field.Goals as goal
 
 pub loop-i-init : goal.loop-i-init

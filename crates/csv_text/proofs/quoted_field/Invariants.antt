@@ -1,10 +1,9 @@
 -- `csv_text::quoted_field` meets its contract: the bytes behind are the text so far.
 -- Assumes nothing.
-use borrow.Author.Rules.{rules}
 use Prim.Native.Nat.{◌-◌}
 use mathlib.Core.Bool.{false}
 use Rattle.csv_text.specs.Fields.{quoted}
-use Rattle.csv_text.proofs.Scanning.{Going, going_start, quoted_on, quoted_open, quoted_last, quoted_comma, quoted_wrong, quoted_twice}
+use Rattle.csv_text.proofs.Scanning.{Going}
 use Rattle.csv_text.proofs.quoted_field.Given as goal
 
 abbrev pub invariant-loop-i : goal.invariant-loop-i

@@ -1,8 +1,7 @@
 -- `csv_text::same` meets its contract: what is left of the two decides.
 -- Assumes nothing.
 use borrow.Author.Rules.{rules}
-use Prim.Native.Nat.{◌-◌}
-use Rattle.csv_text.proofs.Texts.{Alike, alike_start, alike_short, alike_differ, alike_on, alike_end}
+use Rattle.csv_text.proofs.Texts.{alike_start, alike_short, alike_differ, alike_on, alike_end}
 use Rattle.csv_text.proofs.same.Goals as goal
 
 pub loop-i-init : goal.loop-i-init

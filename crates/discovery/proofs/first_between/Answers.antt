@@ -1,10 +1,7 @@
 -- `first_between`: all trips before `lo` arrive before x, and none from `hi` on does.
 use borrow.Author.Rules.{rules}
-use Prim.Native.Nat.{◌-◌, ◌≤◌}
-use Rattle.base.specs.Halving.{Bracket}
 use Rattle.base.proofs.Halving.{bracket_done}
-use Rattle.repository.specs.NetOf.{net_of}
-use Rattle.discovery.specs.Trips.{not_before, first_not_before}
+use Rattle.discovery.specs.Trips.{first_not_before}
 use Rattle.discovery.proofs.Quarters.{low_from, low_mid, mid_high, low_below, mid_below, high_below, low_in, mid_in, high_in}
 use Rattle.discovery.proofs.Near.{step_down, step_up, step_both}
 use Rattle.discovery.proofs.first_between.Goals as goal

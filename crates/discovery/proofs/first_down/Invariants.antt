@@ -1,10 +1,8 @@
 -- `first_down`: two steps towards the first trip, none of them past the one that is looked for.
-use borrow.Author.Rules.{rules}
 use Prim.Native.Nat.{◌-◌}
 use Rattle.base.specs.Halving.{Bracket}
 use Rattle.repository.specs.NetOf.{net_of}
 use Rattle.discovery.specs.Trips.{not_before}
-use Rattle.discovery.proofs.Near.{closed_first, in_down, step_before, stop_down}
 use Rattle.discovery.proofs.first_down.Given as goal
 
 abbrev pub invariant-loop-steps : goal.invariant-loop-steps

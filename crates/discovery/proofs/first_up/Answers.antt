@@ -1,9 +1,5 @@
 -- `first_up`: two steps away from the first trip, none of them past the one that is looked for.
 use borrow.Author.Rules.{rules}
-use Prim.Native.Nat.{◌-◌}
-use Rattle.base.specs.Halving.{Bracket}
-use Rattle.repository.specs.NetOf.{net_of}
-use Rattle.discovery.specs.Trips.{not_before}
 use Rattle.discovery.proofs.Near.{closed, in_up, step_after, stop_up}
 use Rattle.discovery.proofs.first_up.Goals as goal
 

@@ -1,5 +1,4 @@
 -- `choose_at`: the rows from j on are left, and choosing by them leads where choosing by all of them leads.
-use borrow.Author.Rules.{rules}
 use Prim.Native.Nat.{◌-◌, ◌≤◌}
 use mathlib.Core.Path.{◌≡◌}
 use lib.ListN.{length}
@@ -9,9 +8,7 @@ use Rattle.repository.specs.Rows.{calls, first_row, rest}
 use Rattle.allocator.specs.Layout.{view}
 use Rattle.allocator.specs.Does.{Usable}
 use Rattle.explorer.specs.Turns.{Turn}
-use Rattle.explorer.proofs.Turns.{row_end}
 use Rattle.explorer_choosing.specs.Chosen.{chosen_by, chosen_at}
-use Rattle.explorer_choosing.proofs.Choosing.{route_start, route_in, route_next}
 use Rattle.explorer_choosing.proofs.choose_at.Given as goal
 
 abbrev pub invariant-loop-j : goal.invariant-loop-j

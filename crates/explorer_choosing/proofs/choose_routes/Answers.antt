@@ -1,16 +1,7 @@
 -- `choose_routes`: the marked stops from `at` on are left, and choosing does not change which stops are marked.
 use borrow.Author.Rules.{rules}
-use Prim.Native.Nat.{◌-◌}
-use mathlib.Core.Path.{◌≡◌}
-use lib.ListN.{length}
-use Rattle.repository.specs.NetOf.{net_of}
-use Rattle.allocator.specs.Layout.{view, mark_of}
-use Rattle.allocator.specs.Marked.{after}
-use Rattle.allocator.specs.Does.{Usable}
-use Rattle.explorer.specs.Turns.{Turn}
 use Rattle.explorer.proofs.Turns.{mark_end}
 use Rattle.explorer.proofs.Marked.{mark_long, visit_below, visit_less, visit_fits, visit_past}
-use Rattle.explorer_choosing.specs.Chosen.{chosen_at, chosen_all}
 use Rattle.explorer_choosing.proofs.Choosing.{stop_start, stop_next}
 use Rattle.explorer_choosing.proofs.choose_routes.Goals as goal
 

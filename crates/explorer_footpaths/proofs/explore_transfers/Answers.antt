@@ -1,17 +1,7 @@
 -- `explore_transfers`: the stops from `at` on whose mark is held are left, and footpaths do not change which these are.
 use borrow.Author.Rules.{rules}
-use Prim.Native.Nat.{◌-◌}
-use mathlib.Core.Path.{◌≡◌}
-use lib.ListN.{length}
-use Rattle.repository.specs.NetOf.{net_of}
-use Rattle.allocator.specs.Layout.{view, held_mark_of}
-use Rattle.allocator.specs.Marked.{after}
-use Rattle.allocator.specs.Does.{Usable}
-use Rattle.explorer.specs.Fused.{stop_work, feet_work}
-use Rattle.explorer.specs.Turns.{Turn}
 use Rattle.explorer.proofs.Turns.{mark_end}
 use Rattle.explorer.proofs.Marked.{held_long, visit_less, visit_fits, visit_past}
-use Rattle.explorer_footpaths.specs.Footing.{Footing}
 use Rattle.explorer_footpaths.proofs.Stops.{leaving, foot_start, foot_next, footing_held}
 use Rattle.explorer_footpaths.proofs.explore_transfers.Goals as goal
 

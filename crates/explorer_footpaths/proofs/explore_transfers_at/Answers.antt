@@ -1,18 +1,7 @@
 -- `explore_transfers_at`: the rows from j on are left, and lead where all of them lead.
 use borrow.Author.Rules.{rules}
-use Prim.Native.Nat.{◌-◌, ◌≤◌}
-use mathlib.Core.Path.{◌≡◌}
-use lib.ListN.{length}
-use Rattle.model.specs.declared.LegType.TheVariants.{Transfer}
-use Rattle.model.specs.Tables.{Net}
-use Rattle.repository.specs.NetOf.{transfer_row, net_of}
-use Rattle.repository.specs.Rows.{transfers, first_row, rest}
 use Rattle.repository.proofs.Lists.{transfers_are}
-use Rattle.allocator.specs.Layout.{view}
-use Rattle.allocator.specs.Does.{Usable}
-use Rattle.explorer.specs.Turns.{in_turn, Turn}
 use Rattle.explorer.proofs.Turns.{row_next, row_end}
-use Rattle.explorer_footpaths.specs.Footing.{foot_by}
 use Rattle.explorer_footpaths.proofs.Paths.{path_start, row_here}
 use Rattle.explorer_footpaths.proofs.explore_transfers_at.Goals as goal
 

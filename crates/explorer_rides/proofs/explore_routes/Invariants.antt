@@ -1,9 +1,8 @@
 -- `explore_routes`: one chosen route after the other.
-use borrow.Author.Rules.{rules}
 use mathlib.Core.Path.{◌≡◌}
 use Prim.Native.Nat.{◌-◌}
 use lib.ListN.{length}
-use Rattle.explorer_rides.proofs.Routes.{next_below, next_fits, next_room, next_less, Exploring, exploring_start, exploring_step, exploring_end, exploring_usable, placed_on}
+use Rattle.explorer_rides.proofs.Routes.{Exploring}
 use Rattle.explorer_rides.proofs.explore_routes.Given as goal
 
 abbrev pub invariant-loop-r : goal.invariant-loop-r

@@ -1,14 +1,12 @@
 -- `gtfs_times::read_rows` meets its contract: the rows that stand and what is left say what all of them are.
 -- Assumes nothing.
-use borrow.Author.Rules.{rules}
 use Prim.Native.Nat.{◌+◌, ◌-◌}
 use mathlib.Core.Path.{◌≡◌}
 use lib.ListN.{length, drop}
 use Rattle.csv_text.specs.Lines.{lines}
 use Rattle.feed.specs.Feed.{empty_feed}
 use Rattle.feed.specs.Times.{times_from}
-use Rattle.gtfs_times.proofs.Going.{Going, going_start, going_on, takeable, line_fits}
-use Rattle.gtfs_times.proofs.Going.{form_told, form_left, plan_told, plan_left, full_told, full_left, done_told, done_left}
+use Rattle.gtfs_times.proofs.Going.{Going}
 use Rattle.gtfs_times.proofs.read_rows.Given as goal
 
 abbrev pub invariant-loop-i : goal.invariant-loop-i

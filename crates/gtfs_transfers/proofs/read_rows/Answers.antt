@@ -1,11 +1,7 @@
 -- `gtfs_transfers::read_rows` meets its contract: what stands and what is left of the file say what all rows are.
 -- Assumes nothing.
 use borrow.Author.Rules.{rules}
-use Prim.Native.Nat.{◌+◌, ◌-◌}
-use mathlib.Core.Path.{◌≡◌}
-use lib.ListN.{length}
-use Rattle.gtfs_transfers.specs.Told.{rows_read}
-use Rattle.gtfs_transfers.proofs.Pacing.{Pacing, pacing_start, line_fits, bad_told, bad_left, takeable, full_told, full_left, pacing_on, done_told, done_left}
+use Rattle.gtfs_transfers.proofs.Pacing.{pacing_start, line_fits, bad_told, bad_left, takeable, full_told, full_left, pacing_on, done_told, done_left}
 use Rattle.gtfs_transfers.proofs.read_rows.Goals as goal
 
 pub loop-i-init : goal.loop-i-init

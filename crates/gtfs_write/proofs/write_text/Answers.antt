@@ -1,9 +1,7 @@
 -- `gtfs_write::write_text` meets its contract: what is written so far is the front of the text.
 -- Assumes nothing.
 use borrow.Author.Rules.{rules}
-use Prim.Native.Nat.{◌-◌}
-use lib.ListN.{length, drop}
-use Rattle.gtfs_write.proofs.Filled.{Filled, filled_start, byte_next, text_end}
+use Rattle.gtfs_write.proofs.Filled.{filled_start, byte_next, text_end}
 use Rattle.gtfs_write.proofs.write_text.Goals as goal
 
 pub loop-i-init : goal.loop-i-init

@@ -1,9 +1,8 @@
 -- `gtfs_write::write_text` meets its contract: what is written so far is the front of the text.
 -- Assumes nothing.
-use borrow.Author.Rules.{rules}
 use Prim.Native.Nat.{◌-◌}
 use lib.ListN.{length, drop}
-use Rattle.gtfs_write.proofs.Filled.{Filled, filled_start, byte_next, text_end}
+use Rattle.gtfs_write.proofs.Filled.{Filled}
 use Rattle.gtfs_write.proofs.write_text.Given as goal
 
 abbrev pub invariant-loop-i : goal.invariant-loop-i

@@ -1,11 +1,10 @@
 -- `gtfs_write_times::times_fault` meets its contract: what is left leads where all leads.
 -- Assumes nothing.
-use borrow.Author.Rules.{rules}
 use Prim.Native.Nat.{◌-◌}
 use lib.ListN.{length}
 use Rattle.model.specs.Limits.{MOST_STOP_TIMES}
-use Rattle.gtfs_write.proofs.Places.{AtRow, row_start, row_next}
-use Rattle.gtfs_write_times.proofs.Faults.{Faulting, faulting_start, faulting_next, faulting_end, fault_found, stop_small, trip_small}
+use Rattle.gtfs_write.proofs.Places.{AtRow}
+use Rattle.gtfs_write_times.proofs.Faults.{Faulting}
 use Rattle.gtfs_write_times.proofs.times_fault.Given as goal
 
 abbrev pub invariant-loop-i : goal.invariant-loop-i

@@ -1,11 +1,10 @@
 -- `gtfs_write_times::times_size` meets its contract: what is measured and what is left are the whole text.
 -- Assumes nothing.
-use borrow.Author.Rules.{rules}
 use Prim.Native.Nat.{◌-◌}
 use lib.ListN.{length}
 use Rattle.model.specs.Limits.{MOST_STOP_TIMES}
-use Rattle.gtfs_write.proofs.Places.{AtRow, row_start, row_next}
-use Rattle.gtfs_write_times.proofs.Texts.{Sizing, sizing_start, sizing_next, sizing_end}
+use Rattle.gtfs_write.proofs.Places.{AtRow}
+use Rattle.gtfs_write_times.proofs.Texts.{Sizing}
 use Rattle.gtfs_write_times.proofs.times_size.Given as goal
 
 abbrev pub invariant-loop-i : goal.invariant-loop-i

@@ -1,13 +1,10 @@
 -- `gtfs_write_transfers::put_transfers` meets its contract: what is written is the front of the text.
 -- Assumes nothing.
 use borrow.Author.Rules.{rules}
-use Prim.Native.Nat.{◌-◌}
-use lib.ListN.{length}
-use Rattle.model.specs.Limits.{MOST_TRANSFERS}
 use Rattle.feed.specs.Columns.{from_stop_id, to_stop_id, transfer_type, min_transfer_time}
 use Rattle.feed.specs.Writing.{line_with, transfers_header}
-use Rattle.gtfs_write.proofs.Places.{AtRow, row_start, row_next}
-use Rattle.gtfs_write_transfers.proofs.Texts.{header_room, Putting, putting_start, putting_next, putting_end, putting_room}
+use Rattle.gtfs_write.proofs.Places.{row_start, row_next}
+use Rattle.gtfs_write_transfers.proofs.Texts.{header_room, putting_start, putting_next, putting_end, putting_room}
 use Rattle.gtfs_write_transfers.proofs.put_transfers.Goals as goal
 
 pub write_text-requires : goal.write_text-requires

@@ -1,11 +1,10 @@
 -- `gtfs_write_transfers::transfers_fault` meets its contract: what is left leads where all leads.
 -- Assumes nothing.
-use borrow.Author.Rules.{rules}
 use Prim.Native.Nat.{◌-◌}
 use lib.ListN.{length}
 use Rattle.model.specs.Limits.{MOST_TRANSFERS}
-use Rattle.gtfs_write.proofs.Places.{AtRow, row_start, row_next}
-use Rattle.gtfs_write_transfers.proofs.Faults.{Faulting, faulting_start, faulting_next, faulting_end, fault_found, from_small, to_small}
+use Rattle.gtfs_write.proofs.Places.{AtRow}
+use Rattle.gtfs_write_transfers.proofs.Faults.{Faulting}
 use Rattle.gtfs_write_transfers.proofs.transfers_fault.Given as goal
 
 abbrev pub invariant-loop-i : goal.invariant-loop-i

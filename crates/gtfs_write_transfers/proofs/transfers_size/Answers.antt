@@ -1,11 +1,8 @@
 -- `gtfs_write_transfers::transfers_size` meets its contract: what is measured and what is left are the whole text.
 -- Assumes nothing.
 use borrow.Author.Rules.{rules}
-use Prim.Native.Nat.{◌-◌}
-use lib.ListN.{length}
-use Rattle.model.specs.Limits.{MOST_TRANSFERS}
-use Rattle.gtfs_write.proofs.Places.{AtRow, row_start, row_next}
-use Rattle.gtfs_write_transfers.proofs.Texts.{Sizing, sizing_start, sizing_next, sizing_end}
+use Rattle.gtfs_write.proofs.Places.{row_start, row_next}
+use Rattle.gtfs_write_transfers.proofs.Texts.{sizing_start, sizing_next, sizing_end}
 use Rattle.gtfs_write_transfers.proofs.transfers_size.Goals as goal
 
 pub loop-i-init : goal.loop-i-init

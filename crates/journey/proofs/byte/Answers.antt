@@ -1,6 +1,5 @@
 -- `journey::byte` meets its contract: a byte of the slice is below 256.
 -- Assumes nothing.
-use borrow.Author.Rules.{rules}
 use native.Mathlib.Omega.{arith}
 use mathlib.Core.Path.{refl}
 use Rattle.journey.proofs.byte.Goals as goal

@@ -1,13 +1,8 @@
 -- `follow`: the bytes that are left, from where the legs have led, lead where all of them do.
 use borrow.Author.Rules.{rules}
-use Prim.Native.Nat.{◌-◌}
 use native.Mathlib.Omega.{arith}
-use lib.ListN.{length}
-use Rattle.model.specs.Bytes.{read}
-use Rattle.repository.specs.NetOf.{net_of}
 use Rattle.journey.proofs.Told.{next_fits, next_less}
-use Rattle.judge_legs.specs.Reading.{follow_on}
-use Rattle.judge_legs.proofs.Steps.{Following, following_start, following_on, following_wrong, following_bad, following_end}
+use Rattle.judge_legs.proofs.Steps.{following_start, following_on, following_wrong, following_bad, following_end}
 use Rattle.judge_legs.proofs.follow.Goals as goal
 
 pub loop-g-init : goal.loop-g-init

@@ -1,10 +1,6 @@
 -- `comes_from`: the positions that are left decide.
 use borrow.Author.Rules.{rules}
-use Prim.Native.Nat.{◌-◌}
-use Rattle.model.specs.Lists.{upto}
-use Rattle.repository.specs.NetOf.{net_of}
-use Rattle.handheld.specs.Any.{Sought}
-use Rattle.handheld.specs.Fitting.{comes_at, comes_from}
+use Rattle.handheld.specs.Fitting.{comes_from}
 use Rattle.handheld.proofs.Any.{number_next, number_found, number_none}
 use Rattle.judge_rides.proofs.Riding.{ridable_laid, ridable_at, comes_start}
 use Rattle.judge_rides.proofs.comes_from.Goals as goal

@@ -1,10 +1,6 @@
 -- `fits_trip`: the positions that are left decide; the first that the trip may leave from decides alone.
 use borrow.Author.Rules.{rules}
-use Prim.Native.Nat.{◌-◌}
-use Rattle.model.specs.Lists.{upto}
-use Rattle.repository.specs.NetOf.{net_of}
-use Rattle.handheld.specs.Any.{Sought}
-use Rattle.handheld.specs.Fitting.{fits_from, fits_trip}
+use Rattle.handheld.specs.Fitting.{fits_trip}
 use Rattle.handheld.proofs.Any.{number_none}
 use Rattle.judge_rides.proofs.Riding.{ridable_laid, ridable_at, trip_start, trip_next, trip_here}
 use Rattle.judge_rides.proofs.fits_trip.Goals as goal

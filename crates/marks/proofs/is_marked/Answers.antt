@@ -5,7 +5,6 @@ use Prim.Native.Nat.{ℕ, ◌/◌, ◌%◌, ◌^◌}
 use lib.Dec.{eqb}
 use lib.ListN.{get_or}
 use lib.Bits.{and_mask}
-use borrow.Author.Rules.{rules}
 use Rattle.base.proofs.Bits.{bit_is}
 use Rattle.marks.specs.Marks.{marked}
 use Rattle.marks.proofs.is_marked.Goals as goal

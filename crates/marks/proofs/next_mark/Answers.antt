@@ -1,13 +1,13 @@
 -- `marks::next_mark` meets its contract: the word of `from` from there on, and then whole words.
 -- Assumes nothing.
 use mathlib.Core.Path.{refl}
-use Prim.Native.Nat.{◌+◌, ◌-◌, ◌*◌, ◌/◌, ◌%◌, ◌^◌, ◌≤◌}
+use Prim.Native.Nat.{◌+◌, ◌*◌, ◌/◌, ◌%◌, ◌^◌}
 use native.Mathlib.Nat.{div-add-mod', div-one, add-zero, le_refl}
 use native.Mathlib.Omega.{arith}
 use lib.ListN.{get_or}
 use lib.Count.{count_trailing_zeros}
 use Rattle.marks.specs.Marks.{marked}
-use Rattle.marks.proofs.Chosen.{Clear, clear_join, clear_less, clear_empty, first_none}
+use Rattle.marks.proofs.Chosen.{clear_join, clear_less, clear_empty, first_none}
 use Rattle.marks.proofs.Words.{First, word_first, word_clear, answer_at, answer_none}
 use Rattle.marks.proofs.next_mark.Goals as goal
 use Rattle.marks.proofs.next_mark.Goals.{Then-rest-ne0, Then-word-ne0}

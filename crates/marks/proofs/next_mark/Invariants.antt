@@ -1,14 +1,8 @@
 -- `marks::next_mark` meets its contract: the word of `from` from there on, and then whole words.
 -- Assumes nothing.
-use mathlib.Core.Path.{refl}
-use Prim.Native.Nat.{◌+◌, ◌-◌, ◌*◌, ◌/◌, ◌%◌, ◌^◌, ◌≤◌}
-use native.Mathlib.Nat.{div-add-mod', div-one, add-zero, le_refl}
-use native.Mathlib.Omega.{arith}
-use lib.ListN.{get_or}
-use lib.Count.{count_trailing_zeros}
+use Prim.Native.Nat.{◌-◌, ◌*◌, ◌≤◌}
 use Rattle.marks.specs.Marks.{marked}
-use Rattle.marks.proofs.Chosen.{Clear, clear_join, clear_less, clear_empty, first_none}
-use Rattle.marks.proofs.Words.{First, word_first, word_clear, answer_at, answer_none}
+use Rattle.marks.proofs.Chosen.{Clear}
 use Rattle.marks.proofs.next_mark.Given as goal
 
 -- up to word w no stop is marked

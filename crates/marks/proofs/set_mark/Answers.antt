@@ -7,7 +7,6 @@ use lib.Dec.{lit<}
 use lib.Pow.{pow-lt}
 use lib.ListN.{get_or, set}
 use lib.Bits.{bit_or}
-use borrow.Author.Rules.{rules}
 use Rattle.marks.specs.Marks.{with_mark}
 use Rattle.marks.proofs.set_mark.Goals as goal
 

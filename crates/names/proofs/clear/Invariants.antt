@@ -1,9 +1,8 @@
 -- `names::clear` meets its contract: the slots passed are empty.
 -- Assumes nothing.
-use borrow.Author.Rules.{rules}
 use Prim.Native.Nat.{◌-◌, ◌≤◌}
 use mathlib.Core.Path.{◌≡◌}
-use Rattle.names.proofs.Clearing.{Clean, clean_start, clean_on, empty_made}
+use Rattle.names.proofs.Clearing.{Clean}
 use Rattle.names.proofs.clear.Given as goal
 
 abbrev pub invariant-loop-i : goal.invariant-loop-i

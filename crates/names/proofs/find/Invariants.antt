@@ -1,8 +1,7 @@
 -- `names::find` meets its contract: the names of one slot are looked at, the last one first.
 -- Assumes nothing.
-use borrow.Author.Rules.{rules}
 use Rattle.csv_text.specs.Part.{part}
-use Rattle.names.proofs.Chasing.{Chase, head_room, none_found, chase_start, chase_known, chase_found, row_room_2, chase_on, chase_less, chase_none}
+use Rattle.names.proofs.Chasing.{Chase}
 use Rattle.names.proofs.find.Given as goal
 
 abbrev pub invariant-loop-p : goal.invariant-loop-p

@@ -1,8 +1,7 @@
 -- `names::slot` meets its contract: the number so far and what is left decide.
 -- Assumes nothing.
 use borrow.Author.Rules.{rules}
-use Prim.Native.Nat.{◌-◌}
-use Rattle.names.proofs.Slots.{Hashing, hashing_start, hashing_on, hashing_end, slot_below}
+use Rattle.names.proofs.Slots.{hashing_start, hashing_on, hashing_end, slot_below}
 use Rattle.names.proofs.slot.Goals as goal
 
 pub loop-i-init : goal.loop-i-init

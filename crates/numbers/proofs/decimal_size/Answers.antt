@@ -1,7 +1,7 @@
 -- `numbers::decimal_size` meets its contract: what is counted and what is left are all digits and one.
 -- Assumes nothing.
 use borrow.Author.Rules.{rules}
-use Rattle.numbers.proofs.Writing.{Counts, counts_start, counts_next, counts_end, counts_few}
+use Rattle.numbers.proofs.Writing.{counts_start, counts_next, counts_end, counts_few}
 use Rattle.numbers.proofs.decimal_size.Goals as goal
 
 pub loop-left-init : goal.loop-left-init

@@ -1,7 +1,6 @@
 -- `numbers::decimal_size` meets its contract: what is counted and what is left are all digits and one.
 -- Assumes nothing.
-use borrow.Author.Rules.{rules}
-use Rattle.numbers.proofs.Writing.{Counts, counts_start, counts_next, counts_end, counts_few}
+use Rattle.numbers.proofs.Writing.{Counts}
 use Rattle.numbers.proofs.decimal_size.Given as goal
 
 abbrev pub invariant-loop-left : goal.invariant-loop-left

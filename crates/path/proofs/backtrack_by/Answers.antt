@@ -1,11 +1,8 @@
 -- `path::backtrack_by` meets its contract: the legs left, put to their places, lead where all lead.
 -- Assumes nothing.
 use borrow.Author.Rules.{rules}
-use lib.ListN.{length}
-use Rattle.model.specs.Back.{back}
-use Rattle.allocator.specs.Layout.{parents_of}
 use Rattle.path.proofs.Behind.{stop_known, leg_there, fewer}
-use Rattle.path.proofs.Writing.{Writing, writing_none, found_fits, with_within, leg_fits, put_on, put_all_lem}
+use Rattle.path.proofs.Writing.{writing_none, found_fits, with_within, leg_fits, put_on, put_all_lem}
 use Rattle.path.proofs.backtrack_by.Goals as goal
 
 pub loop-g-init : goal.loop-g-init

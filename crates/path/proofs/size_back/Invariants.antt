@@ -1,11 +1,9 @@
 -- `path::size_back` meets its contract: the bytes counted and those of the legs left are the whole.
 -- Assumes nothing.
-use borrow.Author.Rules.{rules}
 use lib.ListN.{length}
 use Rattle.model.specs.Back.{back}
 use Rattle.allocator.specs.Layout.{parents_of}
-use Rattle.path.proofs.Behind.{stop_known, leg_there, fewer}
-use Rattle.path.proofs.Counted.{Counted, counted_none, counted_on, counted_all, size_fits}
+use Rattle.path.proofs.Counted.{Counted}
 use Rattle.path.proofs.size_back.Given as goal
 
 abbrev pub invariant-loop-g : goal.invariant-loop-g

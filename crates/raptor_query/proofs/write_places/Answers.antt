@@ -21,5 +21,9 @@ write_place-b-requires c =
 pub returns : goal.returns
 returns c =
     let start = c in
-    let first = c.write_place-a in record { places_after = halves start.args.stops start.args.places.now start.requires.places_len first.new.half (search rules) first.ensures.half_after
-          c.write_place-b.ensures.half_after; origins_value = search rules; goals_value = search rules }
+    let first = c.write_place-a in record {
+      places_after = halves start.args.stops start.args.places.now start.requires.places_len first.new.half (search rules) first.ensures.half_after
+          c.write_place-b.ensures.half_after;
+      origins_value = search rules;
+      goals_value = search rules;
+    }

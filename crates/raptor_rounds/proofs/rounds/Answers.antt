@@ -1,11 +1,6 @@
 -- `raptor_rounds::rounds` meets its contract: the rounds left come to what the whole search comes to, by `At`.
 use borrow.Author.Rules.{rules}
-use Prim.Native.Nat.{◌-◌}
-use mathlib.Core.Path.{◌≡◌}
-use lib.ListN.{length}
-use Rattle.model.specs.Limits.{MOST_ROUNDS}
-use Rattle.raptor_rounds.specs.Asked.{task_between}
-use Rattle.raptor_rounds.proofs.Loop.{At, at_start, at_tabled, at_goals, at_ready, at_next, at_end, at_all, at_usable}
+use Rattle.raptor_rounds.proofs.Loop.{at_start, at_tabled, at_goals, at_ready, at_next, at_end, at_all, at_usable}
 use Rattle.raptor_rounds.proofs.rounds.Goals as goal
 
 pub loop-k-init : goal.loop-k-init

@@ -1,10 +1,7 @@
 -- `raptor_rounds::scan_targets` meets its contract: the goals in list order, by `Scanned`.
 use borrow.Author.Rules.{rules}
-use Prim.Native.Nat.{◌-◌}
-use lib.ListN.{length}
-use Rattle.allocator.specs.Layout.{best_of}
 use Rattle.base.proofs.Below.{entry_below}
-use Rattle.raptor_rounds.proofs.Targets.{Scanned, scanned_none, scanned_on, scanned_all}
+use Rattle.raptor_rounds.proofs.Targets.{scanned_none, scanned_on, scanned_all}
 use Rattle.raptor_rounds.proofs.scan_targets.Goals as goal
 
 pub loop-i-init : goal.loop-i-init

@@ -1,12 +1,7 @@
 -- `raptor_rounds::start_all` meets its contract: every start stop labelled and marked, by `Starting`.
 use borrow.Author.Rules.{rules}
-use Prim.Native.Nat.{◌-◌}
-use mathlib.Core.Path.{◌≡◌}
-use lib.ListN.{length}
-use Rattle.allocator.specs.Layout.{view}
-use Rattle.allocator.specs.Does.{Usable}
 use Rattle.base.proofs.Below.{entry_below}
-use Rattle.raptor_rounds.proofs.Starting.{Starting, starting_none, starting_on, starting_all}
+use Rattle.raptor_rounds.proofs.Starting.{starting_none, starting_on, starting_all}
 use Rattle.raptor_rounds.proofs.start_all.Goals as goal
 
 pub loop-i-init : goal.loop-i-init

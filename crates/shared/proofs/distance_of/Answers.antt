@@ -1,6 +1,5 @@
 -- `shared::distance_of` meets its contract: a stretch is no NaN.
 -- Assumes nothing.
-use Rattle.std.proofs.Common.{rules}
 use Rattle.shared.proofs.Patterns.{of_stretch}
 use Rattle.shared.proofs.distance_of.Goals as goal
 

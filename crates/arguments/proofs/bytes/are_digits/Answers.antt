@@ -1,10 +1,7 @@
 -- `arguments::bytes::are_digits`: the bytes up to i are digits, and the rest decides.
 use borrow.Author.Rules.{rules}
 use Rattle.arguments.proofs.Digits.{all_is, at_digit}
-use Rattle.arguments.specs.Digits.{digit_at}
-use Rattle.base.specs.All.{So}
 use Rattle.base.proofs.All.{so_start, so_on, so_fails, so_passes}
-use Prim.Native.Nat.{◌-◌}
 use Rattle.arguments.proofs.bytes.are_digits.Goals as goal
 
 pub loop-i-init : goal.loop-i-init

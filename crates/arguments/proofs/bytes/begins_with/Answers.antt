@@ -1,11 +1,7 @@
 -- `arguments::bytes::begins_with`: the bytes up to i are the word's, and the rest decides.
 use borrow.Author.Rules.{rules}
 use Rattle.arguments.proofs.Word.{same_at_lem, other_at, begins_short, begins_is}
-use Rattle.arguments.specs.Word.{same_at}
-use Rattle.base.specs.All.{So}
 use Rattle.base.proofs.All.{so_start, so_on, so_fails, so_passes}
-use lib.ListN.{length}
-use Prim.Native.Nat.{◌-◌, ◌≤◌}
 use Rattle.arguments.proofs.bytes.begins_with.Goals as goal
 
 pub returns-then-arg-word : goal.returns-then-arg-word

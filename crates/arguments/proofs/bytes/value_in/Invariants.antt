@@ -1,6 +1,5 @@
 -- `arguments::bytes::value_in`: the value is that of the digits before i.
-use borrow.Author.Rules.{rules}
-use Rattle.arguments.proofs.Digits.{Read, read_start, read_on, read_over, read_end}
+use Rattle.arguments.proofs.Digits.{Read}
 use Prim.Native.Nat.{◌-◌}
 use Rattle.arguments.proofs.bytes.value_in.Given as goal
 

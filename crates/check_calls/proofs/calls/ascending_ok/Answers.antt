@@ -1,9 +1,6 @@
 -- `ascending_ok`: the calls that are left decide.
 use borrow.Author.Rules.{rules}
-use Prim.Native.Nat.{◌+◌, ◌-◌, ◌≤◌}
-use Rattle.base.specs.All.{So}
 use Rattle.base.proofs.All.{so_start}
-use Rattle.repository.specs.Listed.{later}
 use Rattle.check_calls.proofs.Rooms.{row_in}
 use Rattle.check_calls.proofs.Turns.{turn_on}
 use Rattle.check_calls.proofs.Loops.{one_call, calls_ascend, calls_fall}

@@ -1,10 +1,7 @@
 -- `calls_all_ok`: the routes that are left decide, and the positions left of one.
 use borrow.Author.Rules.{rules}
-use Prim.Native.Nat.{◌-◌}
-use Rattle.base.specs.All.{So}
 use Rattle.base.proofs.All.{so_start}
-use Rattle.repository.specs.Sections.{routes}
-use Rattle.repository.specs.Listed.{called, called_along, calls_all}
+use Rattle.repository.specs.Listed.{calls_all}
 use Rattle.check_calls.proofs.Entries.{route_entry}
 use Rattle.check_calls.proofs.Turns.{done, turn_on}
 use Rattle.check_calls.proofs.Loops.{route_called, route_uncalled}

@@ -1,13 +1,8 @@
 -- `calls_all_ok`: the routes that are left decide, and the positions left of one.
-use borrow.Author.Rules.{rules}
 use Prim.Native.Nat.{◌-◌}
 use Rattle.base.specs.All.{So}
-use Rattle.base.proofs.All.{so_start}
 use Rattle.repository.specs.Sections.{routes}
-use Rattle.repository.specs.Listed.{called, called_along, calls_all}
-use Rattle.check_calls.proofs.Entries.{route_entry}
-use Rattle.check_calls.proofs.Turns.{done, turn_on}
-use Rattle.check_calls.proofs.Loops.{route_called, route_uncalled}
+use Rattle.repository.specs.Listed.{called, called_along}
 use Rattle.check_calls.proofs.calls.calls_all_ok.Given as goal
 
 abbrev pub invariant-loop-p : goal.invariant-loop-p

@@ -1,10 +1,7 @@
 -- `calls_rise_ok`: the stops that are left decide.
 use borrow.Author.Rules.{rules}
-use Prim.Native.Nat.{◌-◌}
-use Rattle.base.specs.All.{So}
 use Rattle.base.proofs.All.{so_start}
-use Rattle.repository.specs.Sections.{stops}
-use Rattle.repository.specs.Listed.{ascending, calls_rise}
+use Rattle.repository.specs.Listed.{calls_rise}
 use Rattle.check_calls.proofs.Turns.{done, turn_on, turn_off}
 use Rattle.check_calls.proofs.calls.calls_rise_ok.Goals as goal
 

@@ -1,10 +1,7 @@
 -- `rows_before`: the rows before `lo` name earlier routes, and `hi` does not.
-use borrow.Author.Rules.{rules}
 use Prim.Native.Nat.{◌-◌}
 use Rattle.base.specs.Halving.{Bracket}
-use Rattle.base.proofs.Halving.{bracket_none, bracket_up, bracket_down, mid_low, mid_high}
 use Rattle.check_calls.specs.Reached.{reached}
-use Rattle.check_calls.proofs.Halved.{route_before, route_reached, bracket_shut}
 use Rattle.check_calls.proofs.calls.rows_before.Given as goal
 
 abbrev pub invariant-loop-lo : goal.invariant-loop-lo

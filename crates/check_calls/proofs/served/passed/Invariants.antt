@@ -1,11 +1,7 @@
 -- `passed`: no call before row j names a route with a trip.
-use borrow.Author.Rules.{rules}
 use Prim.Native.Nat.{◌-◌, ◌≤◌}
 use Rattle.base.specs.All.{So}
-use Rattle.base.proofs.All.{so_start}
 use Rattle.repository.specs.Listed.{fails, running}
-use Rattle.check_calls.proofs.Entries.{call_word, call_entry}
-use Rattle.check_calls.proofs.Loops.{none_runs, one_runs, runs_on}
 use Rattle.check_calls.proofs.served.passed.Given as goal
 
 abbrev pub invariant-loop-j : goal.invariant-loop-j

@@ -1,10 +1,7 @@
 -- `served_ok`: the stops that are left decide.
 use borrow.Author.Rules.{rules}
-use Prim.Native.Nat.{◌-◌}
-use Rattle.base.specs.All.{So}
 use Rattle.base.proofs.All.{so_start}
-use Rattle.repository.specs.Sections.{stops}
-use Rattle.repository.specs.Listed.{served_mark, served}
+use Rattle.repository.specs.Listed.{served}
 use Rattle.check_calls.proofs.Turns.{done, turn_on, turn_off}
 use Rattle.check_calls.proofs.served.served_ok.Goals as goal
 

@@ -1,11 +1,8 @@
 -- `areas_once_ok`: the areas that are left decide.
-use borrow.Author.Rules.{rules}
 use Prim.Native.Nat.{◌-◌}
 use Rattle.base.specs.All.{So}
-use Rattle.base.proofs.All.{so_start}
 use Rattle.repository.specs.Sections.{areas}
-use Rattle.repository.specs.Listed.{area_once, areas_once}
-use Rattle.check_calls.proofs.Turns.{done, turn_on, turn_off}
+use Rattle.repository.specs.Listed.{area_once}
 use Rattle.check_listing.proofs.areas.areas_once_ok.Given as goal
 
 abbrev pub invariant-loop-a : goal.invariant-loop-a

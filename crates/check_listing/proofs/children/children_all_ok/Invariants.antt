@@ -1,11 +1,8 @@
 -- `children_all_ok`: the stops that are left decide.
-use borrow.Author.Rules.{rules}
 use Prim.Native.Nat.{◌-◌}
 use Rattle.base.specs.All.{So}
-use Rattle.base.proofs.All.{so_start}
 use Rattle.repository.specs.Sections.{stops}
-use Rattle.repository.specs.Listed.{of_station, children_all}
-use Rattle.check_calls.proofs.Turns.{done, turn_on, turn_off}
+use Rattle.repository.specs.Listed.{of_station}
 use Rattle.check_listing.proofs.children.children_all_ok.Given as goal
 
 abbrev pub invariant-loop-s : goal.invariant-loop-s

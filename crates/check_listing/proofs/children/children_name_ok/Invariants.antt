@@ -1,12 +1,8 @@
 -- `children_name_ok`: the stations that are left decide, and the children left of one.
-use borrow.Author.Rules.{rules}
 use Prim.Native.Nat.{◌-◌}
 use Rattle.base.specs.All.{So}
-use Rattle.base.proofs.All.{so_start}
 use Rattle.repository.specs.Sections.{stops, CHILD_STARTS}
-use Rattle.repository.specs.Listed.{under, child, children_name}
-use Rattle.check_calls.proofs.Rooms.{row_in}
-use Rattle.check_calls.proofs.Turns.{done, turn_on, rows_pass, rows_fail}
+use Rattle.repository.specs.Listed.{under, child}
 use Rattle.check_listing.proofs.children.children_name_ok.Given as goal
 
 abbrev pub invariant-loop-j : goal.invariant-loop-j

@@ -1,9 +1,6 @@
 -- `marked_once`: the words up to i are distinct, and marked.
 use borrow.Author.Rules.{rules}
-use Prim.Native.Nat.{◌-◌}
-use mathlib.Core.Path.{◌≡◌}
-use lib.ListN.{length}
-use Rattle.check_listing.proofs.Marking.{Marking, marking_start, mark_room, marked_twice, left_twice, marking_on}
+use Rattle.check_listing.proofs.Marking.{marking_start, mark_room, marked_twice, left_twice, marking_on}
 use Rattle.check_listing.proofs.Marking.{marked_all, left_all, marks_stand, marks_none}
 use Rattle.check_listing.proofs.once.marked_once.Goals as goal
 

@@ -1,10 +1,7 @@
 -- `transfers_ok`: the stops that are left decide, and the transfers left of one.
 use borrow.Author.Rules.{rules}
-use Prim.Native.Nat.{◌-◌}
-use Rattle.base.specs.All.{So}
 use Rattle.base.proofs.All.{so_start}
-use Rattle.repository.specs.Sections.{stops, TRANSFER_STARTS}
-use Rattle.repository.specs.Listed.{under, transfer, transfers}
+use Rattle.repository.specs.Listed.{transfers}
 use Rattle.check_calls.proofs.Rooms.{row_in}
 use Rattle.check_calls.proofs.Turns.{done, turn_on, rows_pass, rows_fail}
 use Rattle.check_listing.proofs.paths.transfers_ok.Goals as goal

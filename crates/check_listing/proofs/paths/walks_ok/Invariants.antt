@@ -1,12 +1,8 @@
 -- `walks_ok`: the walks that are left decide.
-use borrow.Author.Rules.{rules}
 use Prim.Native.Nat.{◌-◌}
 use Rattle.base.specs.All.{So}
-use Rattle.base.proofs.All.{so_start}
 use Rattle.repository.specs.Sections.{rows, WALKS, WALK_WORDS}
-use Rattle.repository.specs.Listed.{walk_in, walks}
-use Rattle.check_calls.proofs.Turns.{done, turn, fault}
-use Rattle.check_listing.proofs.Rows.{walk_right, walk_wrong}
+use Rattle.repository.specs.Listed.{walk_in}
 use Rattle.check_listing.proofs.paths.walks_ok.Given as goal
 
 abbrev pub invariant-loop-j : goal.invariant-loop-j

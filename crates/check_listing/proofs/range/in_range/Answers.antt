@@ -1,10 +1,7 @@
 -- `in_range`: the words that are left decide.
 use borrow.Author.Rules.{rules}
-use Prim.Native.Nat.{◌-◌}
-use Rattle.base.specs.All.{So}
 use Rattle.base.proofs.All.{so_start}
-use Rattle.repository.specs.Sections.{size}
-use Rattle.repository.specs.Listed.{indexed, in_range}
+use Rattle.repository.specs.Listed.{in_range}
 use Rattle.check_calls.proofs.Turns.{done, turn, fault}
 use Rattle.check_listing.proofs.Rows.{index_right, index_wrong}
 use Rattle.check_listing.proofs.range.in_range.Goals as goal

@@ -1,12 +1,8 @@
 -- `trip_times_ok`: the routes that are left decide, and the trips left of one.
-use borrow.Author.Rules.{rules}
 use Prim.Native.Nat.{◌-◌}
 use Rattle.base.specs.All.{So}
-use Rattle.base.proofs.All.{so_start}
 use Rattle.repository.specs.Sections.{routes, ROUTE_TRIP_STARTS}
-use Rattle.repository.specs.Listed.{under, time_each, trip_times}
-use Rattle.check_calls.proofs.Rooms.{row_in}
-use Rattle.check_calls.proofs.Turns.{done, turn_on, rows_pass, rows_fail}
+use Rattle.repository.specs.Listed.{under, time_each}
 use Rattle.check_listing.proofs.routes.trip_times_ok.Given as goal
 
 abbrev pub invariant-loop-i : goal.invariant-loop-i

@@ -27,8 +27,12 @@ returns-then-j-item-2 c = search (rules, standing_past)
 
 pub item-requires-3 : goal.item-requires-3
 item-requires-3 c =
-    let u = c in record { laid = search rules; k_bound = search rules; i_bound = row_word u.item-r.result c.if-j-item-2.false c.item-2.ensures u.if-r-entries_of.false
-            u.entries_of.ensures search }
+    let u = c in record {
+      laid = search rules;
+      k_bound = search rules;
+      i_bound = row_word u.item-r.result c.if-j-item-2.false c.item-2.ensures u.if-r-entries_of.false
+          u.entries_of.ensures search;
+    }
 
 pub returns : goal.returns
 returns c = search (rules, standing_is)

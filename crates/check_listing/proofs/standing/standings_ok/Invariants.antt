@@ -1,11 +1,8 @@
 -- `standings_ok`: the trips that are left decide.
-use borrow.Author.Rules.{rules}
 use Prim.Native.Nat.{◌-◌}
 use Rattle.base.specs.All.{So}
-use Rattle.base.proofs.All.{so_start}
 use Rattle.repository.specs.Sections.{trips}
-use Rattle.repository.specs.Listed.{standing, standings}
-use Rattle.check_calls.proofs.Turns.{done, turn_on, turn_off}
+use Rattle.repository.specs.Listed.{standing}
 use Rattle.check_listing.proofs.standing.standings_ok.Given as goal
 
 abbrev pub invariant-loop-v : goal.invariant-loop-v

@@ -1,10 +1,8 @@
 -- `stations_ok`: the stops that are left decide.
 use borrow.Author.Rules.{rules}
-use Prim.Native.Nat.{◌-◌}
-use Rattle.base.specs.All.{So}
 use Rattle.base.proofs.All.{so_start}
 use Rattle.repository.specs.Sections.{stops}
-use Rattle.repository.specs.Listed.{station, stations}
+use Rattle.repository.specs.Listed.{stations}
 use Rattle.check_calls.proofs.Turns.{done, turn_on, turn_off}
 use Rattle.check_listing.proofs.stops.stations_ok.Goals as goal
 

@@ -1,12 +1,8 @@
 -- `stop_list_ok`: the places that are left decide.
-use borrow.Author.Rules.{rules}
 use Prim.Native.Nat.{◌-◌}
 use Rattle.base.specs.All.{So}
-use Rattle.base.proofs.All.{so_start}
 use Rattle.repository.specs.Sections.{stops}
-use Rattle.repository.specs.Listed.{in_place, stop_list}
-use Rattle.check_calls.proofs.Turns.{done, turn, fault}
-use Rattle.check_listing.proofs.Rows.{place_right, place_wrong}
+use Rattle.repository.specs.Listed.{in_place}
 use Rattle.check_listing.proofs.stops.stop_list_ok.Given as goal
 
 abbrev pub invariant-loop-s : goal.invariant-loop-s

@@ -1,5 +1,4 @@
 -- `distances_ok`: transfers, then walks.
-use borrow.Author.Rules.{rules}
 use Rattle.check_tables.proofs.Tests.{measured_is}
 use Rattle.check_tables.proofs.distances.distances_ok.Goals as goal
 

@@ -1,10 +1,7 @@
 -- `walks_ok`: the loop stops at the first row that does not pass.
 use borrow.Author.Rules.{rules}
-use Prim.Native.Nat.{◌-◌}
-use Rattle.base.specs.All.{So}
 use Rattle.base.proofs.All.{so_start}
 use Rattle.check_shape.proofs.Loops.{loop_on, loop_fails, loop_passes}
-use Rattle.check_tables.specs.Distances.{walk_fit}
 use Rattle.check_tables.proofs.distances.walks_ok.Goals as goal
 
 pub loop-j-init : goal.loop-j-init

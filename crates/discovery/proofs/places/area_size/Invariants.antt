@@ -1,12 +1,9 @@
 -- `area_size`: the stops that come of the named stops which are left, and those counted, are all.
-use borrow.Author.Rules.{rules}
 use Prim.Native.Nat.{◌-◌}
 use lib.ListN.{length}
 use Rattle.repository.specs.NetOf.{net_of}
 use Rattle.model.specs.Places.{stops_of_area}
 use Rattle.discovery.specs.Served.{area_rest, Tally}
-use Rattle.discovery.proofs.Counting.{tally_part, tally_end}
-use Rattle.discovery.proofs.Areas.{named_known, children_stops, rest_part, rest_over, area_tally, part_fits}
 use Rattle.discovery.proofs.places.area_size.Given as goal
 
 abbrev pub invariant-loop-i : goal.invariant-loop-i

@@ -1,11 +1,5 @@
 -- `area_stops`: writing the stops that are left ends where writing all does, on places that were cleared.
 use borrow.Author.Rules.{rules}
-use mathlib.Core.Path.{◌≡◌}
-use Prim.Native.Nat.{◌-◌}
-use lib.ListN.{length}
-use Rattle.repository.specs.NetOf.{net_of}
-use Rattle.model.specs.Places.{stops_of_area}
-use Rattle.discovery.specs.Served.{puts, area_rest, Tally, Filling}
 use Rattle.discovery.proofs.Counting.{tally_moved, tally_end, filling_part, filling_end}
 use Rattle.discovery.proofs.Areas.{named_known, children_stops, rest_part, rest_over, area_tally, area_filling}
 use Rattle.discovery.proofs.Areas.{part_room, area_placed}

@@ -1,12 +1,8 @@
 -- `clear`: after i turns the list is i zeros and then the rest.
-use borrow.Author.Rules.{rules}
-use mathlib.Core.Path.{◌≡◌, refl, ap, ◌∙◌}
-use mathlib.Core.List.{List, ◌++◌, append-nil}
-use Prim.Native.Nat.{ℕ, ◌≤◌, ◌<◌, ◌-◌}
-use native.Mathlib.Omega.{arith}
-use borrow.Author.Fill.{fill_none, fill_more}
-use lib.Seq.{drop-length}
-use lib.ListN.{length, set, drop, replicate, length-set}
+use mathlib.Core.Path.{◌≡◌}
+use mathlib.Core.List.{◌++◌}
+use Prim.Native.Nat.{◌≤◌, ◌-◌}
+use lib.ListN.{length, drop, replicate}
 use Rattle.discovery.proofs.places.clear.Given as goal
 
 abbrev pub invariant-loop-i : goal.invariant-loop-i

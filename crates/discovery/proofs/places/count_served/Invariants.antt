@@ -1,12 +1,9 @@
 -- `count_served`: the served of the stops that are left, and those counted, are all.
-use borrow.Author.Rules.{rules}
 use Prim.Native.Nat.{◌-◌, ◌≤◌}
 use lib.ListN.{length, drop}
 use Rattle.model.specs.Places.{served_of}
 use Rattle.repository.specs.NetOf.{net_of}
 use Rattle.discovery.specs.Served.{Tally}
-use Rattle.base.proofs.Below.{entry_below}
-use Rattle.discovery.proofs.Counting.{served_next, served_over, tally_part, tally_end, tally_start}
 use Rattle.discovery.proofs.places.count_served.Given as goal
 
 abbrev pub invariant-loop-i : goal.invariant-loop-i

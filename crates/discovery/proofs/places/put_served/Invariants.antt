@@ -1,14 +1,10 @@
 -- `put_served`: writing the served of the stops that are left ends where writing all does.
-use borrow.Author.Rules.{rules}
 use mathlib.Core.Path.{◌≡◌}
 use Prim.Native.Nat.{◌+◌, ◌-◌}
 use lib.ListN.{length, drop}
 use Rattle.model.specs.Places.{served_of}
 use Rattle.repository.specs.NetOf.{net_of}
 use Rattle.discovery.specs.Served.{puts, Tally, Filling}
-use Rattle.base.proofs.Below.{entry_below}
-use Rattle.discovery.proofs.Counting.{served_next, served_over, tally_moved, tally_end, tally_from, filling_part}
-use Rattle.discovery.proofs.Counting.{filling_end, filling_start, left_room}
 use Rattle.discovery.proofs.places.put_served.Given as goal
 
 abbrev pub invariant-loop-i : goal.invariant-loop-i

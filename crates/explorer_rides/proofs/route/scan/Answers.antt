@@ -1,13 +1,8 @@
 -- `scan`: one position after the other.
 use borrow.Author.Rules.{rules}
-use mathlib.Core.Path.{◌≡◌}
-use lib.ListN.{length}
-use Rattle.model.specs.Rides.{course}
-use Rattle.repository.specs.NetOf.{net_of}
-use Rattle.explorer_rides.proofs.Scanning.{positions_left, Within}
 use Rattle.explorer_rides.proofs.Scanning.{known_riding, known_laid, known_route, known_room, known_stop, known_call, known_fits, known_scaled, known_next}
 use Rattle.explorer_rides.proofs.Scanning.{on_way, left_start, within_start, left_on, left_less, left_end, within_on}
-use Rattle.explorer_rides.proofs.Scanning.{Along, along_start, along_step, along_end, along_usable}
+use Rattle.explorer_rides.proofs.Scanning.{along_start, along_step, along_end, along_usable}
 use Rattle.explorer_rides.proofs.route.scan.Goals as goal
 
 pub route_len-end-requires-clause-laid : goal.route_len-end-requires-clause-laid

@@ -1,6 +1,5 @@
 -- `row_fits`: its stop first, then its span.
 use borrow.Author.Rules.{rules}
-use Rattle.repository.proofs.Asked.{searchable_readable}
 use Rattle.judge_paths.proofs.Rows.{row_there, row_elsewhere}
 use Rattle.judge_paths.proofs.paths.row_fits.Goals as goal
 

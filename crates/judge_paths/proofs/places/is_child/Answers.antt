@@ -1,11 +1,7 @@
 -- `is_child`: the stops named that are left decide.
 use borrow.Author.Rules.{rules}
-use Prim.Native.Nat.{◌-◌}
-use lib.ListN.{length, drop}
-use Rattle.repository.specs.NetOf.{net_of}
 use Rattle.discovery.proofs.Areas.{named_known}
-use Rattle.handheld.specs.Any.{Sought}
-use Rattle.judge_paths.specs.Areas.{is_child, child_of}
+use Rattle.judge_paths.specs.Areas.{is_child}
 use Rattle.judge_paths.proofs.Listed.{child_start, child_next, child_found, list_none}
 use Rattle.judge_paths.proofs.places.is_child.Goals as goal
 

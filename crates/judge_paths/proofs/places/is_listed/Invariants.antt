@@ -1,10 +1,8 @@
 -- `is_listed`: the stops that are left decide.
-use borrow.Author.Rules.{rules}
 use Prim.Native.Nat.{◌-◌}
 use lib.Dec.{eqb}
 use lib.ListN.{length, drop}
 use Rattle.handheld.specs.Any.{any, Sought}
-use Rattle.judge_paths.proofs.Listed.{list_start, stop_next, stop_found, list_none, listed_is}
 use Rattle.judge_paths.proofs.places.is_listed.Given as goal
 
 abbrev pub invariant-loop-i : goal.invariant-loop-i

@@ -1,5 +1,4 @@
 -- `raptor::searching::run` meets its contract: the search, then the reply.
-use borrow.Author.Rules.{rules}
 use Rattle.raptor.proofs.Told.{is_chosen, ran}
 use Rattle.raptor.proofs.searching.run.Goals as goal
 

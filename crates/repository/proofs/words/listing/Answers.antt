@@ -1,5 +1,4 @@
 -- `listing`: the words from the entry to the next.
-use borrow.Author.Rules.{rules}
 use Rattle.repository.proofs.Reading.{listing_is}
 use Rattle.repository.proofs.words.listing.Goals as goal
 

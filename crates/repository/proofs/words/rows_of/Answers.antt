@@ -1,5 +1,4 @@
 -- `rows_of`: whole rows.
-use borrow.Author.Rules.{rules}
 use Rattle.repository.proofs.Leaves.{rows_is}
 use Rattle.repository.proofs.words.rows_of.Goals as goal
 
