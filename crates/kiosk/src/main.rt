@@ -1,64 +1,70 @@
 // Answers one query for a person: where from, where to, when; the journey comes in plain words, or why there is none. The buffers of the
 // program take 57 KiB in all.
+#![tactic(auto)]
+
 use network::{Loaded, Ready};
 use questions::{Asked, Question};
+use std::io;
 
 // Asks the search, and tells the answer.
-fn answer(tables: &[u32], path: &[u8], asked: Question) {
+fn answer(rt: HostRuntime, tables: &[u32], path: &[u8], asked: Question) -> io::Result<()> {
     let mut words = [0u32; 6144];
     let mut marks = [0u64; 64];
     let mut places = [0u32; 256];
     let mut journey = [0u8; 4096];
     let q = asked.query;
     let told = asking::ask(tables, &mut words, &mut marks, &mut places, &mut journey, q);
-    telling::tell_asked(tables, path, &journey, told, asked);
+    telling::tell_asked(&rt, tables, path, &journey, told, asked)
 }
 
 // The query on the tables that are ready; the argument that names their file is in `buffer`.
-fn answer_on(buffer: &[u8], tables: &[u32], ready: Ready, asked: Question) {
+fn answer_on(
+    rt: HostRuntime,
+    buffer: &[u8],
+    tables: &[u32],
+    ready: Ready,
+    asked: Question,
+) -> io::Result<()> {
     let count = ready.count;
     let from = ready.from;
     let to = ready.to;
     if tables.len() < count {
-        return;
+        return Ok(());
     }
     if buffer.len() < to {
-        return;
+        return Ok(());
     }
     if to < from {
-        return;
+        return Ok(());
     }
-    answer(&tables[..count], &buffer[from..to], asked);
+    answer(rt, &tables[..count], &buffer[from..to], asked)
 }
 
 // The query on the tables that it names.
-fn answer_asked(buffer: &mut [u8], asked: Question) {
+fn answer_asked(rt: HostRuntime, buffer: &mut [u8], asked: Question) -> io::Result<()> {
     let mut tables = [0u32; 6144];
     let file = asked.file;
-    let loaded = network::load(buffer, file, &mut tables);
-    let Loaded::Tables(ready) = loaded else {
-        return;
+    let Loaded::Tables(ready) = network::load(&rt, buffer, file, &mut tables)? else {
+        return Ok(());
     };
-    answer_on(buffer, &tables, ready, asked);
+    answer_on(rt, buffer, &tables, ready, asked)
 }
 
-fn print_usage() {
+fn print_usage(rt: HostRuntime) -> io::Result<()> {
     print::text(
+        &rt,
         b"usage: kiosk FROM TO depart|arrive MOMENT [walks:yes|walks:no] [mode:source|mode:rescan] ",
-    );
-    print::text(b"[tables:FILE] [midnight:SECONDS] [bytes]\n");
+    )?;
+    print::text(&rt, b"[tables:FILE] [midnight:SECONDS] [bytes]\n")
 }
 
-fn main() {
+fn main(rt: HostRuntime) -> io::Result<()> {
     let mut buffer = [0u8; 1024];
-    if querying::asks_help(&mut buffer) {
-        print_usage();
-        return;
+    if querying::asks_help(&rt, &mut buffer) {
+        return print_usage(rt);
     }
-    let asked = querying::read_query(&mut buffer);
-    let Asked::Question(a) = asked else {
-        print_usage();
-        return;
+    let Asked::Question(a) = querying::read_query(&rt, &mut buffer)? else {
+        return print_usage(rt);
     };
-    answer_asked(&mut buffer, a);
+    answer_asked(rt, &mut buffer, a)
 }

@@ -1,2 +1,0 @@
--- Laws on a part of a slice.
-pub mod Parts
