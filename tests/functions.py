@@ -114,6 +114,8 @@ def arguments(term):
 
 def stated(f):
     """What the contract states, in its own words."""
+    if "result" in re.findall(r"(\w+)\s*:", f.parameters):
+        complain(f"{f.path}: {f.where} calls a parameter `result`, the word that a clause has for what is given back")
     return "; ".join("`" + clause.replace("|", "\\|") + "`" for clause in f.says)
 
 
