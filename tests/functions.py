@@ -5,7 +5,7 @@
 import glob, os, re, sys
 
 sys.dont_write_bytecode = True  # no folder of compiled scripts in the tree
-from reading import HERE, crates, every_function, source, text_of
+from reading import HERE, crates, every_function, needs, source, text_of
 
 # What prints or reads: where the words come from or go to is in no contract of the kit's library, so the tests compare it.
 PRINTS = "prints"
@@ -210,7 +210,7 @@ def complain(what):
     print(what)
 
 
-NEEDS = {line.split(":")[0].strip(): line.split(":")[1].split() for line in text_of("crates.txt").split("\n") if re.match(r"\w+:", line)}
+NEEDS = needs()
 FILES = {c: sorted(os.path.relpath(p, HERE) for p in glob.glob(f"{HERE}/crates/{c}/src/*.rt")) for c in crates()}
 FUNCTIONS = {c: [f for p in FILES[c] for f in every_function(p)] for c in FILES}
 STRUCTS = {}
