@@ -90,6 +90,7 @@ def mark():
     print(f"{len(programs)} programs and their libraries stand as `rt ci` built them")
 
 
+@functools.cache
 def marked():
     """What the mark says, where it is of this tree."""
     try:
