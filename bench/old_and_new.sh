@@ -1,5 +1,5 @@
 #!/bin/sh
-# old_and_new.sh OLD.a NEW.a [ROUNDS]: two states of the proved library, as `rt staticlib kiosk_c` writes them (or objects of
+# old_and_new.sh OLD.a NEW.a [ROUNDS]: two states of the proved library, as ../rust/library.sh writes them (or objects of
 # ../compare/native.sh), in one program at the limits: both give the same answers, and the time of each, interleaved, with their quotient.
 set -eu
 [ $# -ge 2 ] || { echo "old_and_new.sh OLD.a NEW.a [ROUNDS]"; exit 2; }

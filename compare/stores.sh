@@ -10,15 +10,14 @@ out=$(realpath -m ../target/compare/stores)
 rm -rf "$out"
 mkdir -p "$out"
 ./native.sh kiosk_c ../target/native/kiosk_c.o
-home=$(dirname "$(dirname "$(rt doc)")")
-clang=$home/on/$(uname -m)/toolchain/bin/clang
+clang=$(dirname "$(rt doc)")/toolchain/bin/clang
 
 # told NAME OPTION..: what these options compile, as $out/NAME.o, where each store first calls __sanitizer_cov_store*, and blocks of bytes are set and copied by
 # the program's told_mem*.
 told() {
     name=$1
     shift
-    "$clang" --target="$(uname -m)-unknown-linux-gnu" -O3 -fsanitize-coverage=func,trace-pc-guard,trace-stores -S -emit-llvm -o "$out/$name.ll" "$@" 2> "$out/said" || {
+    "$clang" --target=x86_64-unknown-linux-gnu -O3 -fsanitize-coverage=func,trace-pc-guard,trace-stores -S -emit-llvm -o "$out/$name.ll" "$@" 2> "$out/said" || {
         cat "$out/said"; exit 1; }
     stores=$(grep -c '^ *store ' "$out/$name.ll") || true
     seen=$(grep -c 'call void @__sanitizer_cov_store[0-9]*(' "$out/$name.ll") || true
@@ -31,7 +30,7 @@ told() {
         echo "stores.sh: $name writes in a way that is not told"; exit 1
     fi
     # as it stands: no pass may make stores of its own
-    "$clang" --target="$(uname -m)-unknown-linux-gnu" -Wno-override-module -O1 -Xclang -disable-llvm-passes -c -x ir -o "$out/$name.o" "$out/$name.told.ll" 2> "$out/said" || {
+    "$clang" --target=x86_64-unknown-linux-gnu -Wno-override-module -O1 -Xclang -disable-llvm-passes -c -x ir -o "$out/$name.o" "$out/$name.told.ll" 2> "$out/said" || {
         cat "$out/said"; exit 1; }
 }
 told proved -Wno-override-module -x ir ../target/native/kiosk_c.bc

@@ -4,14 +4,10 @@ use std::{env, process};
 
 const LIBRARIES: [&str; 2] = ["kiosk_c", "gtfs_c"];
 
-/// Where the archives are by themselves: `rt staticlib` writes them for x86-64, `library.sh` makes them for any processor.
+/// Where `library.sh` makes the archives.
 fn usual_folder() -> PathBuf {
-    let variable = |name| env::var(name).expect("cargo sets it");
-    let made = match variable("CARGO_CFG_TARGET_ARCH").as_str() {
-        "x86_64" => "staticlib",
-        _ => "native",
-    };
-    Path::new(&variable("CARGO_MANIFEST_DIR")).join("../target").join(made)
+    let own = env::var("CARGO_MANIFEST_DIR").expect("cargo sets it");
+    Path::new(&own).join("../target/staticlib")
 }
 
 fn main() {

@@ -4,7 +4,7 @@
 set -eu
 cd "$(dirname "$0")/.."
 root=$(pwd)
-said=$(rt check checkjourney kiosk 2>&1) || { printf '%s\n' "$said"; exit 1; }
+for program in checkjourney kiosk; do tools/build.sh $program 2>/dev/null || tools/build.sh $program || exit 1; done
 room=$(mktemp -d)
 trap 'rm -rf "$room"' EXIT
 cd "$room"

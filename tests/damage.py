@@ -5,7 +5,7 @@
   damage.py held              that crates/checktables/stdin and stdout are this list, byte for byte
   damage.py run COUNT SEED    COUNT damaged tables through the program, compared number by number
 
-The program is target/bin/checktables; PROGRAM may name another command that runs it. The networks that are damaged are small nasty ones of this seed
+The program is crates/checktables/out/checktables; PROGRAM may name another command that runs it. The networks that are damaged are small nasty ones of this seed
 (compare/generate.sh).
 """
 import os, random, shlex, struct, subprocess, sys
@@ -179,12 +179,8 @@ def held():
 def program():
     if "PROGRAM" in os.environ:
         return shlex.split(os.environ["PROGRAM"])
-    guide = subprocess.run(["rt", "doc"], stdout=subprocess.PIPE, check=True).stdout.decode().strip()
-    home = os.path.dirname(os.path.dirname(guide))
-    kit = os.path.join(home, "on", os.uname().machine, "toolchain")
-    run = [os.path.join(kit, "lib/ld-linux-x86-64.so.2"), "--library-path", os.path.join(kit, "lib"), os.path.join(root, "target/bin/checktables")]
-    emulator = os.path.join(kit, "bin/qemu-x86_64")
-    return ([emulator] if os.path.exists(emulator) else []) + run
+    subprocess.run([os.path.join(root, "tools/build.sh"), "checktables"], check=True)
+    return [os.path.join(root, "tests/run.sh"), "checktables"]
 
 
 def run(count, seed):

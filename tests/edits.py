@@ -1,19 +1,24 @@
 #!/usr/bin/env python3
 # A must-fail edit costs its crate's whole check, so an edit file may have several parts, each headed by a line `part: NAME`, which rt passes over.
-# This holds each part refused by itself, as if it stood alone. A part changes bodies of functions, contracts or definitions. In what the prover said of
-# the file (target/must-fail, after `rt ci`) there must be a refusal, in the proof of a function or in a module of laws, that speaks of what this part
+# This holds each part refused by itself, as if it stood alone. A part changes bodies of functions, contracts or definitions. In what the prover says of
+# the file there must be a refusal, in the proof of a function or in a module of laws, that speaks of what this part
 # changes and of nothing that another part changes (tests/speaks.py), so it would be there without the others. A caller speaks of its callee's contract
 # and never of its body. A refusal that only says that something else was not admitted comes from there, and one that misses a module or a
-# need by its name from there too or from the code's shape: neither counts. Where something is refused that speaks of no part, nothing is concluded.
-#   edits.py         after `rt ci`: every part
+# goal by its name from there too or from the code's shape: neither counts. Where something is refused that speaks of no part, nothing is concluded.
+# `rt ci` keeps no more of what the prover says than its first line, so the prover is asked once more, over the libraries that stand (tools/proved.py); what
+# it says is kept in target/edits for as long as nothing changes.
+#   edits.py         after `rt ci`: every part. With names of crates those alone
 #   edits.py before  before it: whether each part can have a refusal of its own; and the script itself is tried on a kept case (tests/edits), where a part
 #                    that is no fault must be seen, and one that hides behind another
 #   edits.py list    the parts, and what they change
-import glob, os, re, sys
+import concurrent.futures, glob, os, re, shutil, sys, tempfile
 
 sys.dont_write_bytecode = True  # no folder of compiled scripts in the tree
 from reading import HERE, parts_of
 from speaks import Crate, read
+
+sys.path.insert(0, os.path.join(HERE, "tools"))
+import proved
 
 CASE = os.path.join(HERE, "tests/edits")
 
@@ -23,9 +28,9 @@ def refused(crate, said):
     own = set()
     for line in said.split("\n"):
         error = re.match(r"(?:\S*/)?(proofs/\S+\.antt):\d+:\d+: error: (.*)", line)
-        if error and "was not admitted (" not in error.group(2) and " has no `" not in error.group(2):
+        if error and not re.search(r"was not admitted| has no (?:field )?`|is not in scope", error.group(2)):
             own.add(crate.node(error.group(1)))
-        none = re.match(r"fn \w+?::(\S+): no proof: expected .*; `search` does not close ", line)
+        none = re.match(r"fn \w+?::(\S+): no proof: expected answers in \S+; `search` did not prove ", line)
         if none:
             own.add(f"fn:{none.group(1)}")
     return own
@@ -67,28 +72,67 @@ def tried():
     return got
 
 
+def said_of(name, label, edit):
+    """What the prover says of a crate with all parts of an edit, or why it could not be asked."""
+    log, now = f"{HERE}/target/edits/{name}/{label}.said", proved.state([*proved.below(name), name]) + "\n" + edit
+    if os.path.isfile(log) and read(log).startswith(now + "\n====\n"):
+        return read(log)[len(now) + 6 :]
+    with tempfile.TemporaryDirectory() as room:
+        for part in ("src", "specs", "proofs"):
+            if os.path.isdir(f"{HERE}/crates/{name}/{part}"):
+                shutil.copytree(f"{HERE}/crates/{name}/{part}", f"{room}/{part}")
+        for pairs in parts_of(edit, "").values():
+            for file, old, new in pairs:
+                text = read(f"{room}/{file}")
+                if text.count(old) != 1:
+                    return f"NOT TRIED: its old text does not stand in {file} once: {old.strip()}"
+                with open(f"{room}/{file}", "w", encoding="utf-8") as f:
+                    f.write(text.replace(old, new))
+        status, said = proved.rattle("check", name, room)
+    if status != 1 or not said.rstrip("\n").endswith("logic=not-proved"):
+        return f"NOT TRIED: the prover ended with status {status}: {said[-300:]}"
+    os.makedirs(os.path.dirname(log), exist_ok=True)
+    with open(log, "w", encoding="utf-8") as f:
+        f.write(f"{now}\n====\n{said}")
+    return said
+
+
+def asked(files):
+    """What the prover says of each of these files, as many at once as there are processors and memory."""
+    try:
+        for name in sorted({name for name, _, _ in files}):
+            proved.libraries(name)
+    except proved.Failed as said:
+        sys.exit(f"{said}edits.py: a library is not proved")
+    with open("/proc/meminfo") as f:
+        room = int(re.search(r"MemAvailable: +(\d+)", f.read()).group(1)) // 3_000_000
+    with concurrent.futures.ThreadPoolExecutor(max(1, min(len(os.sched_getaffinity(0)), room))) as pool:
+        return dict(zip(files, pool.map(lambda one: said_of(*one), files)))
+
+
 if __name__ == "__main__":
-    how, wrong, files, parts, crates = (sys.argv[1:] or ["after"])[0], 0, 0, 0, {}
-    for path in sorted(glob.glob(f"{HERE}/crates/*/must-fail/*.edit")):
-        edit, name, label = read(path), path.split("/")[-3], os.path.basename(path)[:-5]
-        if not re.search(r"^part: ", edit, re.M):
-            continue
+    how, wrong, parts, crates = (sys.argv[1:] or ["after"])[0], 0, 0, {}
+    files = [(path.split("/")[-3], os.path.basename(path)[:-5], read(path)) for path in sorted(glob.glob(f"{HERE}/crates/*/must-fail/*.edit"))]
+    files = [one for one in files if re.search(r"^part: ", one[2], re.M)]
+    if how not in ("after", "before", "list"):
+        how, files = "after", [one for one in files if one[0] in sys.argv[1:]]
+    said_by = asked(files) if how == "after" else {}
+    for name, label, edit in files:
         crate = crates.setdefault(name, Crate(f"{HERE}/crates/{name}", name))
-        log = f"{HERE}/target/must-fail/{name}/{label}/.log"
-        said = None if how != "after" else read(log) if os.path.isfile(log) else ""
+        said = said_by.get((name, label, edit))
         found, changes = wrong_of(crate, edit, said)
-        found = ["it was not tried"] if said == "" else found
+        found = [said] if said and said.startswith("NOT TRIED") else found
         for w in found:
             print(f"{name}/{label}: {w}")
         for part, nodes in changes.items() if how == "list" else []:
             print(f"{name}/{part}: {', '.join(sorted(map(str, nodes)))} ({label})")
-        files, parts, wrong = files + 1, parts + len(changes), wrong + len(found)
+        parts, wrong = parts + len(changes), wrong + len(found)
     if how == "before":
         wanted = read(f"{CASE}/wanted").split("\n")[:-1]
         if tried() != wanted:
             wrong += 1
             print("tests/edits: what must be seen there is not; what is seen:\n" + "\n".join(tried()))
-        print(f"{parts} parts in {files} must-fail edits, {len(wanted)} findings in a kept case, {wrong} wrong")
+        print(f"{parts} parts in {len(files)} must-fail edits, {len(wanted)} findings in a kept case, {wrong} wrong")
     else:
-        print(f"{parts} parts in {files} must-fail edits{', each refused by itself' if how == 'after' else ''}, {wrong} wrong")
+        print(f"{parts} parts in {len(files)} must-fail edits{', each refused by itself' if how == 'after' else ''}, {wrong} wrong")
     sys.exit(wrong > 0)

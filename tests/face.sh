@@ -19,7 +19,7 @@ nm "$lib/libkiosk_c.a" "$lib/libgtfs_c.a" | awk '
     END { exit found }'
 
 # the most bytes of a journey are those of the theorem
-proved=$(sed -n 's/.* length-most : .* ≤ \([0-9_]*\)$/\1/p' crates/raptor/proofs/Promises.antt | tr -d _)
+proved=$(sed -n 's/.* length_most : .* ≤ \([0-9_]*\)$/\1/p' crates/raptor/proofs/Promises.antt | tr -d _)
 grep -q "^#define KIOSK_MOST_JOURNEY $proved\$" crates/kiosk_c/include/kiosk.h || { echo "the theorem says $proved bytes, kiosk.h does not"; exit 1; }
 
 # run COMPILER.. : no warning as the headers stand in programs that use all of them, and then the programs

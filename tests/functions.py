@@ -5,7 +5,7 @@
 import glob, os, re, sys
 
 sys.dont_write_bytecode = True  # no folder of compiled scripts in the tree
-from reading import HERE, crates, every_function, source, text_of
+from reading import HERE, crates, every_function, needs, source, text_of
 
 # What prints or reads: where the words come from or go to is in no contract of the kit's library, so the tests compare it.
 PRINTS = "prints"
@@ -18,6 +18,7 @@ OUTSIDE = {
     "print::legs": PRINTS,
     "replay::probe::answer_line": PRINTS,
     "replay::rust::answer_line": PRINTS,
+    "input::read_full": READS,
     "input::read_input": READS,
     "loading::load": READS,
     "loading::print_fault": PRINTS,
@@ -55,6 +56,7 @@ OPEN = {
     "gtfs_transfers::read_transfers": BOOK,
     "gtfs_read::read": BOOK,
     "gtfs_c::kiosk_gtfs_read": BOOK,
+    "gtfs_export::kiosk_gtfs_read": BOOK,
 }
 # What a law of its own fixes: two results that meet the function's contract are equal by it.
 OWN = {
@@ -74,6 +76,8 @@ LAWS = {
 }
 BESIDE = ("Usable", "Tidy")  # nothing stands beside the state: the rest is said by the state itself
 EQUATION = "equation"
+# The same of what is given back where no read and no write fails.
+ON_OK = "equation on `Ok`"
 
 
 def sides(conjunct):
@@ -86,6 +90,12 @@ def sides(conjunct):
         if depth == 0 and c == "≡" and at_equals is None:
             at_equals = at
     return at_equals and (conjunct[:at_equals].strip(), conjunct[at_equals + 1 :].strip())
+
+
+def of_ok(clause):
+    """What a clause says of the result's value where there is no error of reading or writing, and whether it says so."""
+    found = re.fullmatch(r"(?:IfOk|OnOk) result \(λ (\w+)\. (.*)\)", clause)
+    return (re.sub(rf"(?<![\w.'-]){found.group(1)}(?![\w'-])", "result", found.group(2)), True) if found else (clause, False)
 
 
 def parts(clause):
@@ -114,6 +124,8 @@ def arguments(term):
 
 def stated(f):
     """What the contract states, in its own words."""
+    if "result" in re.findall(r"(\w+)\s*:", f.parameters):
+        complain(f"{f.path}: {f.where} calls a parameter `result`, the word that a clause has for what is given back")
     return "; ".join("`" + clause.replace("|", "\\|") + "`" for clause in f.says)
 
 
@@ -138,7 +150,7 @@ def fixed_by(f, what):
     spoken, laws, fields, rests, state = False, [], set(), set(), False
     others = [w for w in ([""] if f.result else []) + f.lent() if w != what]
     shape = shape_of(what)
-    for clause in f.says:
+    for clause, is_on_ok in map(of_ok, f.says):
         for c in (c for c in parts(clause) if re.search(shape, c)):
             spoken = True
             for law in (w for w in LAWS if re.search(rf"(?<![\w-]){w}(?![\w-])", c) and source(*LAWS[w])):
@@ -155,7 +167,7 @@ def fixed_by(f, what):
                     continue  # it is told by itself
                 on = {w for w in others if re.search(shape_of(w), other)}
                 if re.fullmatch(rf"{shape}(?:\.now)?", side):
-                    return EQUATION, on
+                    return ON_OK if is_on_ok else EQUATION, on
                 field = re.fullmatch(rf"{shape}\.(\w+)", side) if not what else None
                 if field:
                     fields.add(field.group(1))
@@ -192,7 +204,7 @@ def outside():
     for crate, own in FUNCTIONS.items():
         below = [crate] + NEEDS[crate]
         for f in own:
-            if re.search(r"\b(?:io|fs|env)::|\brt\b", f.parameters + f.result + f.body):
+            if re.search(r"\bimpl \w|\bHostRuntime\b", f.parameters):
                 found.add((crate, f.name))
             reach[crate, f.name] = {(c, n) for n in re.findall(r"(\w+)\(", f.body) for c in below}
     while True:
@@ -208,7 +220,7 @@ def complain(what):
     print(what)
 
 
-NEEDS = {line.split(":")[0].strip(): line.split(":")[1].split() for line in text_of("crates.txt").split("\n") if re.match(r"\w+:", line)}
+NEEDS = needs()
 FILES = {c: sorted(os.path.relpath(p, HERE) for p in glob.glob(f"{HERE}/crates/{c}/src/*.rt")) for c in crates()}
 FUNCTIONS = {c: [f for p in FILES[c] for f in every_function(p)] for c in FILES}
 STRUCTS = {}
@@ -248,7 +260,7 @@ for crate in FILES:
         if f.where in OWN and f.where not in by.values():
             complain(f"{f.path}: {f.where} is listed in OWN, and its law is not there or not needed")
         reason = OUTSIDE.get(f.where) or LESS.get(f.where) or (f.where in OPEN and "open: " + OPEN[f.where]) or ""
-        unique = "; ".join((["equation"] if EQUATION in by.values() else []) + sorted(laws) + ([reason] if reason else []))
+        unique = "; ".join([how for how in (EQUATION, ON_OK) if how in by.values()] + sorted(laws) + ([reason] if reason else []))
         rows.append(f"| `{f.where}` | [`{f.path[len('crates/'):]}`](../{f.path}) | {len(f.asks) or ''} | {stated(f) or 'nothing'} | {unique} |")
 for name in sorted((set(OUTSIDE) | set(LESS) | set(OPEN) | set(OWN)) - met):
     complain(f"tests/functions.py: there is no function {name}")
@@ -264,7 +276,8 @@ What is stated is the contract's own text. A slice that may be written is `words
 `tables.now`, and what is given back is the `result`. The definitions named stand in
 `crates/NAME/specs`; those that the promises rest on are copied in [STATEMENTS.md](STATEMENTS.md).
 
-The last column: *equation*, where the result and each slice that may be written is said to be equal to something; then two results are equal at once.
+The last column: *equation*, where the result and each slice that may be written is said to be equal to something; then two results are equal at once;
+*equation on `Ok`*, where that is said of what is given back if no read and no write fails.
 `does_unique` (`allocator/proofs/Unique.antt`), where it is the record `Does`; `same_words` (`allocator/proofs/Same.antt`), where it says the state that
 words and marks hold and that they are `Tidy` or `Usable` (nothing stands beside that state): two tidy workspaces of one state are equal word for word.
 `solved_unique`, `ran_unique`

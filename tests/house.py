@@ -6,7 +6,7 @@ import glob, os, re, sys
 
 sys.dont_write_bytecode = True  # no folder of compiled scripts in the tree
 from believed import file_of, names, used
-from reading import HERE, crates, every_function, indent, text_of, there
+from reading import HERE, crates, every_function, indent, needs, text_of, there
 
 WIDEST, MOST = 140, 7
 DECISIONS, PROVING = "docs/DECISIONS.md", "docs/PROVING.md"
@@ -227,8 +227,8 @@ def floors():
             if not own:
                 complain("crates.txt", f"tests/house.py does not know in which column of the drawing this stands: {line}")
         elif ":" in line:
-            crate, below = line.split(":")
-            at[crate] = 1 + max((at[b] for b in below.split() if b in at), default=-1)
+            crate = re.match(r"\w+", line).group()
+            at[crate] = 1 + max((at[b] for b in needs()[crate] if b in at), default=-1)
             found[crate] = (at[crate], column)
     return found
 

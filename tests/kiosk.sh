@@ -4,7 +4,7 @@
 set -eu
 cd "$(dirname "$0")/.."
 root=$(pwd)
-said=$(rt check kiosk showlegs 2>&1) || { printf '%s\n' "$said"; exit 1; }
+for program in kiosk showlegs; do tools/build.sh $program 2>/dev/null || tools/build.sh $program || exit 1; done
 room=$(mktemp -d)
 trap 'rm -rf "$room"' EXIT
 cd "$room"
@@ -416,25 +416,32 @@ script=./again
 asked 0 output 0 2 depart 120 mode:rescan tables:m
 cd ..
 script=$root/kiosk
-# what rt says: crates that were proved anew are told, the others not; what fails is shown
+# what rt says: crates that were proved anew are told, the others not; what fails is shown. What the kit here has built is not another kit's
 mkdir rt
 cat >rt/rt <<END
 #!/bin/sh
-[ "\$1" = check ] || PATH=\${PATH#*:} exec rt "\$@"
-cat "$room/check"
-exit \$(cat "$room/ends")
+case \$1 in
+version) echo another kit && exit ;;
+run) cat "$room/run" && exit \$(cat "$room/ends") ;;
+esac
+PATH=\${PATH#*:} exec rt "\$@"
 END
 chmod +x rt/rt
 PATH=$room/rt:$PATH
-printf '%s\n' 'rt: base proved (unchanged since it was last proved)' 'fn a: proved' 'rt: model proved (18 s)' 'rt: ok, 2 crates proved' >check
+told() { sed 's/, [0-9]* s$//' said | grep -Fqx "$1" || { echo "./kiosk does not say: $1"; cat said; exit 1; }; }
+ran='rt: running out/kiosk; to give it other input, run that file yourself'
+printf '%s\n' 'rt: chose --jobs 2 for model' 'fn model::a: proved' 'crate model: modules loaded=1 checked=2' 'logic=proved functions=1' "$ran" >run
 echo 0 >ends
 "$script" 0 4 depart 50 >output 2>said
-says 'proved model, 18 s'
+told 'proved model'
 [ "$(wc -l <said)" -eq 1 ] || { echo './kiosk says more than what was proved:'; cat said; exit 1; }
-printf '%s\n' 'rt: base proved (1 s)' 'fn b: not proved' 'rt: FAILED: model' >check
+echo "$ran" >run
+"$script" 0 4 depart 50 >output 2>said
+[ ! -s said ] || { echo './kiosk says something where nothing was proved:'; cat said; exit 1; }
+printf '%s\n' 'crate base: modules loaded=1 checked=2' 'logic=proved functions=1' 'fn model::b: not proved' 'logic=not-proved' >run
 echo 1 >ends
 asked 1 error 0 4 depart 50
-says 'proved base, 1 s'
-says 'fn b: not proved'
-says 'rt: FAILED: model'
+told 'proved base'
+says 'fn model::b: not proved'
+says 'logic=not-proved'
 echo "kiosk: $(grep -c '^>' table) runs printed what the table has; $asks times the script gave its status and used the right stream"

@@ -132,7 +132,7 @@ LIB, PROMISED = "crates/allocator/src/lib.rt", "crates/raptor/proofs/Promises.an
 def dropped_clause():
     """A function that may write a slice and says two things, without the one about the slice."""
     head = head_of("crates/kiosk_c/src/legs.rt", "kiosk_read")
-    sub("crates/kiosk_c/src/legs.rt", head, re.sub(r"\n    ensures \{ λ _\..*?⌝ \}", "", head, flags=re.S))
+    sub("crates/kiosk_c/src/legs.rt", head, re.sub(r"\n    ensures \w* ?\{ told\.new .*? \}", "", head, flags=re.S))
 
 
 def checked_says(new):
@@ -140,7 +140,7 @@ def checked_says(new):
 
     def damage():
         head = head_of("crates/check_tables/src/lib.rt", "check")
-        sub("crates/check_tables/src/lib.rt", head, re.sub(r"⌜ (r ≡ .*?) ⌝", lambda m: f"⌜ {new.replace('SAID', m.group(1))} ⌝", head))
+        sub("crates/check_tables/src/lib.rt", head, re.sub(r"\{ (result ≡ .*?) \}", lambda m: f"{{ {new.replace('SAID', m.group(1))} }}", head))
 
     return damage
 
@@ -148,12 +148,12 @@ def checked_says(new):
 def state_only():
     """The search with nothing said of what stands beside the state."""
     head = head_of("crates/raptor_rounds/src/lib.rt", "search")
-    sub("crates/raptor_rounds/src/lib.rt", head, re.sub(r"\n    ensures \{ λ _\. ⌜ (?:Usable|Tidy) .*?⌝ \}", "", head, flags=re.S))
+    sub("crates/raptor_rounds/src/lib.rt", head, re.sub(r"\n    ensures \w* ?\{ (?:Usable|Tidy) .*? \}", "", head, flags=re.S))
 
 
 def nothing_of_the_result():
     head = head_of("crates/check_tables/src/lib.rt", "check")
-    sub("crates/check_tables/src/lib.rt", head, re.sub(r"λ r\. ⌜ r ≡ .*? ⌝", "λ _. ⌜ 0 ≡ 0 ⌝", head))
+    sub("crates/check_tables/src/lib.rt", head, re.sub(r"\{ result ≡ .*? \}", "{ 0 ≡ 0 }", head))
 
 
 def sentence_and_row_gone():
@@ -173,25 +173,25 @@ def definition_only():
 
 
 def theorem_and_block_gone():
-    theorem_gone(PROMISED, "chosen-round")
-    sub(COPIES, block_of("chosen-round"), "")
-    set_cell("3.8", 2, lambda c: re.sub(r", \[`chosen-round`\]\([^)]*\)", "", c))
+    theorem_gone(PROMISED, "chosen_round")
+    sub(COPIES, block_of("chosen_round"), "")
+    set_cell("3.8", 2, lambda c: re.sub(r", \[`chosen_round`\]\([^)]*\)", "", c))
 
 
 def row_without_its_only_theorem():
-    theorem_gone(PROMISED, "past-unchanged")
-    sub(COPIES, block_of("past-unchanged"), "")
+    theorem_gone(PROMISED, "past_unchanged")
+    sub(COPIES, block_of("past_unchanged"), "")
     set_cell("1.7", 2, "the code")
     sub(LIST, entry("1.7"), re.sub(r"    says .*\n", "", entry("1.7")))
 
 
 def new_hypothesis():
-    sub(PROMISED, "pub tables-refused : (k : ℕ)", "pub tables-refused : Accepted t → (k : ℕ)")
+    sub(PROMISED, "pub tables_refused : (k : ℕ)", "pub tables_refused : Accepted t → (k : ℕ)")
 
 
 def witness_that_is_none():
     supposed = next(l for l in read(PAGE).split("\n") if l.startswith("| `Sound`"))
-    sub(PAGE, supposed, supposed[: supposed.rindex(" | ")] + " | `repository/proofs/Sound.antt` `accepted-sound` |")
+    sub(PAGE, supposed, supposed[: supposed.rindex(" | ")] + " | `repository/proofs/Sound.antt` `accepted_sound` |")
 
 
 def witness_row_gone():
@@ -200,7 +200,7 @@ def witness_row_gone():
 
 def believed_unlisted():
     file = "crates/model/specs/Spans.antt"
-    sub(file, "\nuse ", "\nuse Rattle·repository.specs.Rows.{word}\nuse ")
+    sub(file, "\nuse ", "\nuse Rattle.repository.specs.Rows.{word}\nuse ")
 
 
 def first_line_gone():
@@ -219,26 +219,26 @@ MUTATIONS = [
     ("a public function that returns a slice and states nothing", added(LIB, "pub fn part(words: &[u32]) -> &[u32] {\n    words\n}\n"), True, FUNCTIONS, "allocator::part states nothing"),
     ("a public function that returns an array and states nothing", added(LIB, "pub fn pair() -> [u32; 2] {\n    [0, 0]\n}\n"), True, FUNCTIONS, "allocator::pair states nothing"),
     ("a public method that states nothing", added(LIB, "impl Parent {\n    pub fn first(&self) -> u32 {\n        0\n    }\n}\n"), True, FUNCTIONS, "allocator::Parent::first states nothing"),
-    ("a public function for C that states nothing", added("crates/kiosk_c/src/lib.rt", '#[no_mangle]\npub extern "C" fn kiosk_more() -> u32 {\n    0\n}\n'), True, FUNCTIONS, "kiosk_c::kiosk_more states nothing"),
+    ("a public function for C that states nothing", added("crates/kiosk_c/src/lib.rt", '#[unsafe(no_mangle)]\npub extern "C" fn kiosk_more() -> u32 {\n    0\n}\n'), True, FUNCTIONS, "kiosk_c::kiosk_more states nothing"),
     *(
         (f"one in {where}", added(f"crates/{where.replace('::', '/src/', 1)}.rt", "pub fn more() -> u32 {\n    0\n}\n"), True, FUNCTIONS, f"{where.removesuffix('::lib')}::more states nothing")
         for where in ("asking::lib", "print::lib", "lines::lib", "replay::probe", "telling::moment")
     ),
     ("a slice that may be written, and nothing said of it", dropped_clause, True, FUNCTIONS, "kiosk_read does not say what it leaves in told"),
-    ("a result of which only a bound is said", checked_says("r ≤ 5"), True, FUNCTIONS, "check_tables::check leaves open its result"),
-    ("a result that is said only on a condition", checked_says("r ≡ 0 → SAID"), True, FUNCTIONS, "check_tables::check leaves open its result"),
+    ("a result of which only a bound is said", checked_says("result ≤ 5"), True, FUNCTIONS, "check_tables::check leaves open its result"),
+    ("a result that is said only on a condition", checked_says("result ≡ 0 → SAID"), True, FUNCTIONS, "check_tables::check leaves open its result"),
     ("a workspace of which only the state is said", state_only, True, FUNCTIONS, "raptor_rounds::search leaves open its result, what it leaves in words, what it leaves in marks"),
-    ("an operation that is told by what it leaves", lambda: sub(LIB, "Does stops routes (swapped stops)", "Does stops routes (λ _. view stops routes (now (words .exit)) (now (marks .exit)))"), True, FUNCTIONS, "allocator::swap_labels leaves open what it leaves in words, what it leaves in marks"),
-    ("a result that is said to be itself", checked_says("r ≡ r"), True, FUNCTIONS, "check_tables::check leaves open its result"),
+    ("an operation that is told by what it leaves", lambda: sub(LIB, "Does stops routes (swapped stops)", "Does stops routes (λ _. view stops routes words.new marks.new)"), True, FUNCTIONS, "allocator::swap_labels leaves open what it leaves in words, what it leaves in marks"),
+    ("a result that is said to be itself", checked_says("result ≡ result"), True, FUNCTIONS, "check_tables::check leaves open its result"),
     ("a result of which nothing is said", nothing_of_the_result, True, FUNCTIONS, "check_tables::check does not say its result"),
     ("an exception that has an equation", listed("LESS", "shared::time_to_walk", "less"), True, FUNCTIONS, "take it off the list"),
     ("an exception that is said to print and does not", listed("OUTSIDE", "shared::time_to_walk", "prints"), True, FUNCTIONS, "nothing that it calls does"),
     ("an exception that is no function", listed("OPEN", "shared::time_to_fly", "open"), True, FUNCTIONS, "there is no function shared::time_to_fly"),
-    ("a law of a function's own that is gone", lambda: sub("crates/csv_text/proofs/Stepping.antt", "pub line-once :", "pub line-twice :"), True, FUNCTIONS, "csv_text::line leaves open its result"),
-    ("a law of its own for a function that needs none", lambda: sub(LISTS, "\nOWN = {", '\nOWN = {\n    "shared::time_to_walk": ("csv_text/proofs/Parts.antt", "part-ends"),\n'), True, FUNCTIONS, "shared::time_to_walk is listed in OWN"),
+    ("a law of a function's own that is gone", lambda: sub("crates/csv_text/proofs/Stepping.antt", "pub line_once :", "pub line_twice :"), True, FUNCTIONS, "csv_text::line leaves open its result"),
+    ("a law of its own for a function that needs none", lambda: sub(LISTS, "\nOWN = {", '\nOWN = {\n    "shared::time_to_walk": ("csv_text/proofs/Parts.antt", "part_ends"),\n'), True, FUNCTIONS, "shared::time_to_walk is listed in OWN"),
     ("the page of functions changed by hand", lambda: sub("docs/FUNCTIONS.md", "| equation |", "| equations |"), False, FUNCTIONS, "is not what tests/functions.py writes"),
-    ("a statement changed, and the page of functions not", checked_says("r ≡ checkOf []"), False, FUNCTIONS, "is not what tests/functions.py writes"),
-    ("a parameter called as the page calls what is given back", added(LIB, "pub fn more(result: u32) -> u32\n    ensures { λ r. ⌜ r ≡ result ⌝ }\n{\n    result\n}\n"), True, FUNCTIONS, "allocator::more calls a parameter `result`"),
+    ("a statement changed, and the page of functions not", checked_says("result ≡ check_of []"), False, FUNCTIONS, "is not what tests/functions.py writes"),
+    ("a parameter called as a clause calls what is given back", added(LIB, "pub fn more(result: u32) -> u32\n    ensures { result ≡ result }\n{\n    result\n}\n"), True, FUNCTIONS, "allocator::more calls a parameter `result`"),
     ("what two rows cite exchanged", lambda: exchange("1.4", "1.7", 2), True, PROMISES, "row 1.4 does not have"),
     ("what two rows of one file cite exchanged", lambda: exchange("3.1", "3.2", 2), True, PROMISES, "row 3.2 does not have"),
     ("what two parts cite exchanged", lambda: exchange("8.3", "8.4", 2), True, PROMISES, "row 8.3 does not have"),
@@ -252,33 +252,33 @@ MUTATIONS = [
     ("an edit of what is not there", edit_changed("1.9", lambda text: re.sub(r"^old: ", "old: nowhere ", text, flags=re.M)), True, PROMISES, "its old text does not stand in"),
     ("an edit of a proof", edit_changed("1.9", lambda text: re.sub(r"^file: \w+/", "file: proofs/", text, flags=re.M)), True, PROMISES, "which is no code and no definition"),
     ("an edit gone", lambda: set_cell("1.9", 3, lambda c: c.replace("`model/", "`model/no_")), True, PROMISES, "no edit model/no_"),
-    ("a theorem deleted together with its block", theorem_and_block_gone, True, PROMISES, "row 3.8 does not have raptor/proofs/Promises.antt chosen-round"),
+    ("a theorem deleted together with its block", theorem_and_block_gone, True, PROMISES, "row 3.8 does not have raptor/proofs/Promises.antt chosen_round"),
     ("a theorem deleted with all that names it", row_without_its_only_theorem, True, PROMISES, "1.7 has no theorem and no contract"),
-    ("a theorem deleted and its block kept", lambda: theorem_gone(PROMISED, "past-unchanged"), True, PROMISES, "nothing to copy for"),
+    ("a theorem deleted and its block kept", lambda: theorem_gone(PROMISED, "past_unchanged"), True, PROMISES, "nothing to copy for"),
     ("a sentence dropped with its row", sentence_and_row_gone, True, PROMISES, "the sentences are not those that were agreed"),
     ("a sentence changed with its row", sentence_changed, True, PROMISES, "the sentences are not those that were agreed"),
     ("a row that nobody wanted", lambda: sub(PAGE, row("1.9"), row("1.9") + "\n" + row("1.9").replace("| 1.9 |", "| 1.19 |")), True, PROMISES, "row 1.19 stands in no line"),
     ("a name that is only text in its file", lambda: set_cell("1.4", 2, lambda c: c + ", `unfolding`"), True, PROMISES, "unfolding is no theorem, contract or definition"),
-    ("a private name", lambda: set_cell("1.4", 2, lambda c: c + ", `kept-journey`"), True, PROMISES, "kept-journey is no theorem, contract or definition"),
+    ("a private name", lambda: set_cell("1.4", 2, lambda c: c + ", `kept_journey`"), True, PROMISES, "kept_journey is no theorem, contract or definition"),
     ("a name of another file", lambda: set_cell("1.3", 2, lambda c: c + "; `raptor/src/lib.rt` `kiosk_solve`"), True, PROMISES, "kiosk_solve is no theorem, contract or definition"),
     ("a file that is not there", lambda: set_cell("1.3", 2, lambda c: c + "; `raptor/src/lip.rt`"), True, PROMISES, "no file raptor/src/lip.rt"),
-    ("a copy changed by hand", lambda: sub(COPIES, "drop z (after .journey) ≡ drop z (before .journey)", "drop z (after .journey) ≡ before .journey"), False, PROMISES, "the copy of past-unchanged is not the text"),
-    ("a statement changed, and its copy not", lambda: sub(PROMISED, "pub past-unchanged : drop z (after .journey) ≡ drop z (before .journey)", "pub past-unchanged : z ≡ z"), False, PROMISES, "the copy of past-unchanged is not the text"),
-    ("a copy that does not say of what", lambda: sub(COPIES, block_of("past-unchanged"), block_of("past-unchanged").split("\n\n", 1)[1]), False, PROMISES, "do not say which statement they copy"),
-    ("a link that leads elsewhere", lambda: set_cell("1.7", 2, lambda c: c.replace("#raptor-Promises-past-unchanged", "#raptor-Promises-any-order")), False, PROMISES, "past-unchanged does not lead to its statement"),
-    ("a statement without its anchor", lambda: sub(COPIES, 'id="raptor-Promises-past-unchanged"', 'id="past-unchanged"'), False, PROMISES, "past-unchanged does not lead to its statement"),
-    ("a new hypothesis of a theorem", new_hypothesis, True, PROMISES, "tables-refused supposes Accepted, and no witness is named"),
-    ("a witness that supposes something itself", witness_that_is_none, True, PROMISES, "accepted-sound is no witness"),
+    ("a copy changed by hand", lambda: sub(COPIES, "drop z after.journey ≡ drop z before.journey", "drop z after.journey ≡ before.journey"), False, PROMISES, "the copy of past_unchanged is not the text"),
+    ("a statement changed, and its copy not", lambda: sub(PROMISED, "pub past_unchanged : drop z after.journey ≡ drop z before.journey", "pub past_unchanged : z ≡ z"), False, PROMISES, "the copy of past_unchanged is not the text"),
+    ("a copy that does not say of what", lambda: sub(COPIES, block_of("past_unchanged"), block_of("past_unchanged").split("\n\n", 1)[1]), False, PROMISES, "do not say which statement they copy"),
+    ("a link that leads elsewhere", lambda: set_cell("1.7", 2, lambda c: c.replace("#raptor-Promises-past_unchanged", "#raptor-Promises-any_order")), False, PROMISES, "past_unchanged does not lead to its statement"),
+    ("a statement without its anchor", lambda: sub(COPIES, 'id="raptor-Promises-past_unchanged"', 'id="past_unchanged"'), False, PROMISES, "past_unchanged does not lead to its statement"),
+    ("a new hypothesis of a theorem", new_hypothesis, True, PROMISES, "tables_refused supposes Accepted, and no witness is named"),
+    ("a witness that supposes something itself", witness_that_is_none, True, PROMISES, "accepted_sound is no witness"),
     ("a hypothesis that nobody witnesses", witness_row_gone, True, PROMISES, "supposes Fair, and no witness is named"),
-    ("files that are said to be read so, and are not shown", lambda: write(PAGE, re.sub(r"^\| `AllTaken`.*\n", "", read(PAGE), flags=re.M)), True, PROMISES, "taken-answered supposes AllTaken, and no witness is named"),
+    ("files that are said to be read so, and are not shown", lambda: write(PAGE, re.sub(r"^\| `AllTaken`.*\n", "", read(PAGE), flags=re.M)), True, PROMISES, "taken_answered supposes AllTaken, and no witness is named"),
     ("a line more to be believed", lambda: sub("crates/model/specs/Spans.antt", "\nuse ", "\n-- one line more\nuse "), False, PROMISES, "what must be believed is not what is counted"),
-    ("an arrival query's footpaths that nobody lists both ways", lambda: write(PAGE, re.sub(r"^\| `Ways`.*\n", "", read(PAGE), flags=re.M)), True, PROMISES, "found-gets-yes supposes Ways, and no witness is named"),
+    ("an arrival query's footpaths that nobody lists both ways", lambda: write(PAGE, re.sub(r"^\| `Ways`.*\n", "", read(PAGE), flags=re.M)), True, PROMISES, "found_gets_yes supposes Ways, and no witness is named"),
     ("a sentence of request 2 that is passed over", lambda: sub(LIST, "10.6 No legs is a no.", "10.6 No legs is a yes."), True, PROMISES, "the sentences are not those that were agreed"),
     ("a sentence of request 3 that is passed over", lambda: sub(LIST, "11.1 Write each leg once.", "11.1 Write each leg."), True, PROMISES, "the sentences are not those that were agreed"),
-    ("a leg that may be put past the buffer", lambda: write(PAGE, re.sub(r"^\| `InBuffer`.*\n", "", read(PAGE), flags=re.M)), True, PROMISES, "uncounted-stays supposes InBuffer, and no witness is named"),
+    ("a leg that may be put past the buffer", lambda: write(PAGE, re.sub(r"^\| `InBuffer`.*\n", "", read(PAGE), flags=re.M)), True, PROMISES, "uncounted_stays supposes InBuffer, and no witness is named"),
     ("a line more to be believed for a request", lambda: sub("crates/feed/specs/Refused.antt", "\nuse ", "\n-- one line more\nuse "), False, PROMISES, "what must be believed is not what is counted"),
     ("a file more to be believed", believed_unlisted, False, PROMISES, "what must be believed is not what is counted"),
-    ("more taken from the kit", lambda: sub("crates/model/specs/Spans.antt", "\nuse ", "\nuse lib.Perm.{perm}\nuse "), False, PROMISES, "what is taken from the kit"),
+    ("more taken from the kit", lambda: sub("crates/model/specs/Spans.antt", "\nuse ", "\nuse Rattle.std.specs.Perm.{perm}\nuse "), False, PROMISES, "what is taken from the kit"),
     ("a crate that the map leaves out", lambda: sub("README.md", "| `marks` |", "| marks |"), False, PROMISES, "the map leaves out marks"),
     ("two parts of an edit that change one function", part_added("src/lib.rt", "bits % 0x8000_0000", "bits % 0x8000_0001"), False, EDITS, "one_more changes the same"),
     ("a part that changes what the others speak of", part_added("specs/Walk.antt", "zero = ", "zero = suc "), False, EDITS, "it cannot be refused by itself"),
@@ -296,44 +296,44 @@ MUTATIONS = [
     ("a letter with a number that nobody counted", lambda: sub(LETTER, "2,156,976", "2,156,979"), True, SIGNED, "a number that docs/DIFFERENCES.md does not have"),
     ("a section under another number", lambda: sub(TABLES, "| 5 | `CALLS` |", "| 5 | `SERVED` |"), False, LAYOUT, "section 5 is CALLS, not SERVED"),
     ("a section renamed, and its page not", lambda: sub(SECTIONS, "abbrev pub SERVED : ℕ\nSERVED =", "abbrev pub PASSED : ℕ\nPASSED ="), False, LAYOUT, "section 6 is PASSED, not SERVED"),
-    ("a row one word wider, and its page not", lambda: sub(SECTIONS, "TRANSFER-WORDS = 4", "TRANSFER-WORDS = 5"), False, LAYOUT, "TRANSFERS has `rows of 5` words"),
+    ("a row one word wider, and its page not", lambda: sub(SECTIONS, "TRANSFER_WORDS = 4", "TRANSFER_WORDS = 5"), False, LAYOUT, "TRANSFERS has `rows of 5` words"),
     ("a row of which a word is not told", lambda: sub(TABLES, "the stop that it leaves, the stop that it leads to, its stated span or MAX, its metres", "the stop that it leads to, its stated span or MAX, its metres"), False, LAYOUT, "a row of TRANSFERS has 4 words, and 3 are named"),
     ("a section more, and its page not", lambda: (sub(SECTIONS, "SECTIONS = 20", "SECTIONS = 21"), sub(SECTIONS, "HEADER = 21", "HEADER = 22")), False, LAYOUT, "it does not list 21 sections"),
     ("a header that is too long for its sections", lambda: sub(SECTIONS, "HEADER = 21", "HEADER = 22"), False, LAYOUT, "a header of 22 words does not say"),
     ("a section of another length", lambda: sub(TABLES, "| `SERVED` | S |", "| `SERVED` | S + 1 |"), False, LAYOUT, "SERVED has `S` words"),
     ("rows for each trip, and no number of them", lambda: sub(TABLES, "| `STANDING` | 2 * T |", "| `STANDING` | rows of 2 |"), False, LAYOUT, "STANDING has `2 * T` words"),
-    ("a place that is not told", lambda: sub(TABLES, "the route that the trip stands in, its place among `ROUTE-TRIPS`", "the route that the trip stands in"), False, LAYOUT, "a row of STANDING has 2 words, and 1 are named"),
+    ("a place that is not told", lambda: sub(TABLES, "the route that the trip stands in, its place among `ROUTE_TRIPS`", "the route that the trip stands in"), False, LAYOUT, "a row of STANDING has 2 words, and 1 are named"),
     ("a trip of N at another place", lambda: sub(TABLES, "| 0 0, 0 1, 1 2, 1 3 |", "| 0 0, 0 1, 1 3, 1 2 |"), False, LAYOUT, "N's words are not what tools/timetable.py makes"),
     ("the layout's number of before", lambda: sub(TABLES, "that is behind the header: 21.", "that is behind the header: 20."), False, LAYOUT, "it does not say: that is behind the header: 21."),
-    ("the starts of another list", lambda: sub(TABLES, "starts of `CHILDREN`, by stop", "starts of `CHILDREN`, by route"), False, LAYOUT, "CHILD-STARTS has the starts of CHILDREN, by stop"),
+    ("the starts of another list", lambda: sub(TABLES, "starts of `CHILDREN`, by stop", "starts of `CHILDREN`, by route"), False, LAYOUT, "CHILD_STARTS has the starts of CHILDREN, by stop"),
     ("a section with another number in code", lambda: sub("crates/repository/src/sections.rt", "pub const WALKS: usize = 10;", "pub const WALKS: usize = 11;"), False, NUMBERS, "WALKS is 10, and in"),
     ("a section's number in code", added("crates/repository/src/calls.rt", "fn more(tables: &[u32]) -> u32 {\n    word(tables, 7, 0)\n}\n"), False, NUMBERS, "word(tables, 7,"),
     ("a section's number in a proof", added("crates/repository/proofs/Stops.antt", "more : (w : List ℕ) → sec w 7 0 ≡ sec w 7 0\nmore w = refl\n"), False, NUMBERS, "sec .. 7"),
-    ("a limit raised, and its page not", lambda: sub(LIMITS, "MOST-TRIPS = 16_384", "MOST-TRIPS = 16_448"), False, LAYOUT, "MOST-TRIPS is 16448 in"),
-    ("a limit that the page leaves out", added(LIMITS, "abbrev pub MOST-TRAMS : ℕ\nMOST-TRAMS = 7\n"), False, LAYOUT, "MOST-TRAMS is 7 in"),
-    ("a limit of the tool raised alone", lambda: sub("tools/timetable.py", "16384, 262144,", "16448, 262144,"), False, LAYOUT, "TRIPS is 16448, and MOST-TRIPS"),
-    ("a rule that the page leaves out", lambda: sub("crates/repository/specs/Listed.antt", "&& areasListed w", "&& areasListed w && more w"), False, LAYOUT, "its rules are not the tests of the check: [(2, 'more')]"),
+    ("a limit raised, and its page not", lambda: sub(LIMITS, "MOST_TRIPS = 16_384", "MOST_TRIPS = 16_448"), False, LAYOUT, "MOST_TRIPS is 16448 in"),
+    ("a limit that the page leaves out", added(LIMITS, "abbrev pub MOST_TRAMS : ℕ\nMOST_TRAMS = 7\n"), False, LAYOUT, "MOST_TRAMS is 7 in"),
+    ("a limit of the tool raised alone", lambda: sub("tools/timetable.py", "16384, 262144,", "16448, 262144,"), False, LAYOUT, "TRIPS is 16448, and MOST_TRIPS"),
+    ("a rule that the page leaves out", lambda: sub("crates/repository/specs/Listed.antt", "&& areas_listed w", "&& areas_listed w && more w"), False, LAYOUT, "its rules are not the tests of the check: [(2, 'more')]"),
     ("a rule under another number", lambda: sub(TABLES, "| 4 | \"At each", "| 3 | \"At each"), False, LAYOUT, "its rules are not the tests of the check"),
     ("a rule in words that nobody wrote", lambda: sub(TABLES, "equality is allowed.", "equality is refused."), False, LAYOUT, "the definitions do not quote"),
     ("a word of N changed", lambda: sub(TABLES, "| 2 3 30 0 |", "| 2 3 31 0 |"), False, LAYOUT, "N's words are not what tools/timetable.py makes"),
-    ("a word of N changed in the program", lambda: sub("crates/network/src/words.rt", "    30,\n    0,\n", "    31,\n    0,\n"), False, LAYOUT, "words.rt: its words of N are not those of the page"),
+    ("a word of N changed in the program", lambda: sub("crates/network/src/words.rt", "    30, 0, 0,", "    31, 0, 0,"), False, LAYOUT, "words.rt: its words of N are not those of the page"),
     ("a place of N's words changed", lambda: sub(TABLES, "| 58 to 62 |", "| 58 to 63 |"), False, LAYOUT, "the words of SERVED are 58 to 62"),
     ("a law among the definitions", added("crates/model/specs/Spans.antt", "pub more : 0 ≡ 0\nmore = refl\n"), False, RULES, "more is a law or a text that stays shut"),
     ("a private law among the definitions", added("crates/model/specs/Spans.antt", "more : 0 ≡ 0\nmore = refl\n"), False, RULES, "more is a law or a text that stays shut"),
     ("a proof that is called a definition", added("crates/model/specs/Spans.antt", "unfoldable pub more : (n : ℕ) → n ≡ n\nmore n = refl\n"), False, RULES, "more is a law or a text that stays shut"),
-    ("a definition that cites a proof", lambda: sub("crates/model/specs/Spans.antt", "\nuse ", "\nuse Rattle·model·proofs.proofs.Better.{better-strict}\nuse "), False, RULES, "a definition cites a proof: Rattle·model·proofs.proofs.Better"),
-    ("a contract that cites a proof", lambda: sub("crates/marks/src/lib.rt", "\nghost use ", "\nghost use Rattle·marks·proofs.proofs.Laws.{none-left};\nghost use "), False, RULES, "a contract cites a proof: Rattle·marks·proofs.proofs.Laws"),
+    ("a definition that cites a proof", lambda: sub("crates/model/specs/Spans.antt", "\nuse ", "\nuse Rattle.model.proofs.Better.{better_strict}\nuse "), False, RULES, "a definition cites a proof: Rattle.model.proofs.Better"),
+    ("a contract that cites a proof", lambda: sub("crates/marks/src/lib.rt", "\nghost use ", "\nghost use Rattle.marks.proofs.Laws.{none_left};\nghost use "), False, RULES, "a contract cites a proof: Rattle.marks.proofs.Laws"),
     ("a wide line of code", added("crates/marks/src/lib.rt", "// " + "wide " * 30 + "\n"), False, RULES, "characters, and 140 are the most"),
     ("a function of eight parameters", added("crates/marks/src/lib.rt", "fn more(a: u8, b: u8, c: u8, d: u8, e: u8, f: u8, g: u8, h: u8) {}\n"), False, RULES, "marks::more takes 8 parameters"),
     ("an exception for a function of few parameters", lambda: sub("docs/DECISIONS.md", "`kiosk_words::query_of`", "`kiosk_words::query_of`, `kiosk_words::tell`"), False, RULES, "kiosk_words::tell takes no more than 7 parameters"),
     ("a file that does not say its subject", first_line_gone, False, RULES, "crates/journey/specs/Parts.antt: its first line does not say"),
     ("a script that does not say its subject", lambda: write("tests/more.py", "import os\n"), False, RULES, "tests/more.py: its first line does not say"),
-    ("a name that two definitions have", added("crates/journey/specs/Legs.antt", "unfoldable pub legSize : ℕ → ℕ\nlegSize n = n\n"), False, RULES, "both define legSize"),
+    ("a name that two definitions have", added("crates/journey/specs/Legs.antt", "unfoldable pub leg_size : ℕ → ℕ\nleg_size n = n\n"), False, RULES, "both define leg_size"),
     ("a third definition of a name that two share", added("crates/journey/specs/Parts.antt", "pub record Chosen : Type 0 where\n  pub one : ℕ\n"), False, RULES, "both define Chosen"),
-    ("a file that cites two definitions of one name", lambda: sub("crates/raptor_reply/specs/Chosen.antt", "\nuse ", "\nuse Rattle·model.specs.Choosing.{Chosen as Routes}\nuse "), False, RULES, "it cites two definitions of Chosen"),
-    ("a law that nobody cites", added("crates/marks/proofs/Laws.antt", "pub no-one-asks : 0 ≡ 0\nno-one-asks = refl\n"), False, RULES, "nothing reaches no-one-asks"),
+    ("a file that cites two definitions of one name", lambda: sub("crates/raptor_reply/specs/Chosen.antt", "\nuse ", "\nuse Rattle.model.specs.Choosing.{Chosen as Routes}\nuse "), False, RULES, "it cites two definitions of Chosen"),
+    ("a law that nobody cites", added("crates/marks/proofs/Laws.antt", "pub no_one_asks : 0 ≡ 0\nno_one_asks = refl\n"), False, RULES, "nothing reaches no_one_asks"),
     ("two laws that cite only each other", added("crates/marks/proofs/Laws.antt", "island : 0 ≡ 0\nisland = strand\n\nstrand : 0 ≡ 0\nstrand = island\n"), False, RULES, "nothing reaches strand"),
-    ("a definition that nobody cites", added("crates/marks/specs/Marks.antt", "unfoldable pub idleMark : ℕ → ℕ\nidleMark n = n\n"), False, RULES, "nothing reaches idleMark"),
+    ("a definition that nobody cites", added("crates/marks/specs/Marks.antt", "unfoldable pub idle_mark : ℕ → ℕ\nidle_mark n = n\n"), False, RULES, "nothing reaches idle_mark"),
     ("a page that is not there", lambda: sub("docs/TABLES.md", "](PROMISES.md)", "](PROMISED.md)"), False, RULES, "a link leads nowhere: PROMISED.md"),
     ("a place of a page that is not there", lambda: sub("docs/TABLES.md", "](DECISIONS.md#the-tables)", "](DECISIONS.md#the-chairs)"), False, RULES, "a link leads to no place of docs/DECISIONS.md"),
     ("a page that is named and not linked", lambda: write("docs/TABLES.md", read("docs/TABLES.md") + "\nSee BENCHMARKS.md.\n"), False, RULES, "BENCHMARKS.md is named and not linked"),

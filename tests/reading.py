@@ -147,8 +147,14 @@ def source(path, name):
     return None
 
 
+@functools.cache
+def needs():
+    """What each line of crates.txt says that a crate needs."""
+    return {name: below.split() for name, below in re.findall(r"^(\w+)(?: +staticlib)? *:(.*)$", text_of("crates.txt"), re.M)}
+
+
 def crates():
-    return [line.split(":")[0].strip() for line in text_of("crates.txt").split("\n") if re.match(r"\w+:", line)]
+    return list(needs())
 
 
 def parts_of(text, alone):

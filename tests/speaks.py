@@ -54,8 +54,8 @@ class Crate:
     def named(self, text):
         """The nodes of this crate that a text names by their modules."""
         found = set()
-        for m in re.finditer(rf"Rattle·{self.name}·\w+\.(specs|proofs)((?:\.[\w-]+)+)", text):
-            parts = m.group(2)[1:].split(".")
+        for m in re.finditer(rf"\b(?:Rattle\.{self.name}\.|crate::)(specs|proofs)((?:(?:\.|::)\w+)+)", text):
+            parts = re.split(r"\.|::", m.group(2))[1:]
             for k in range(len(parts), 0, -1):
                 file, name = f"{m.group(1)}/{'/'.join(parts[:k])}.antt", "::".join(parts[:k])
                 if file in self.texts or m.group(1) == "proofs" and name in self.functions:
@@ -69,8 +69,8 @@ class Crate:
         found = self.named(text)
         for m in re.finditer(r"^ghost use ([^;{]+?)(?:\.\{([^}]*)\}| as (\w+))?;", source, re.M):
             names = (m.group(2) or m.group(3) or m.group(1).split(".")[-1]).split(",")
-            for word in (w for n in names for w in n.split(" as ")[-1].strip().split("_") if w):
-                if re.search((r"(?<![\w·])" if word[0].isalnum() else "") + re.escape(word), text):
+            for word in (w for n in names for w in n.split(" as ")[-1].strip().split("◌") if w):
+                if re.search((r"(?<!\w)" if word[0].isalnum() else "") + re.escape(word), text):
                     found |= self.named(m.group(1))
         return found
 

@@ -1,10 +1,13 @@
 #!/usr/bin/env python3
 # letter.py: fills in the foot of docs/LETTER.md: what is signed for, by sums that anybody can make again. The crates must be committed; what is not proved
-# yet is proved first (`rt check`), and the archive is built anew (`rt staticlib kiosk_c`): for x86-64, and the same bytes on every machine that builds
-# it. RT names another `rt`.
+# yet is proved first (`rt ci`), each program and the library is checked once more for what it assumes, and the archive is built anew (tools/proved.py): for
+# x86-64, and the same bytes in every folder. RT names another `rt`.
 # letter.py check: the foot is that of this tree's sources, commit and kit, and the letter is one page without a word of ours that it does not explain.
-# letter.py proved: it is that of the verdicts in target/log, and of the archive.
-import datetime, hashlib, os, re, shutil, subprocess, sys
+# letter.py proved LOG: it is that of the verdicts in LOG, which is what an `rt ci` said that passed here, and of the archive.
+import concurrent.futures, datetime, hashlib, os, re, shutil, subprocess, sys
+
+sys.dont_write_bytecode = True  # no folder of compiled scripts in the tree
+import proved as standing
 
 HERE = os.path.abspath(os.path.join(os.path.dirname(os.path.abspath(__file__)), ".."))
 LETTER, LINES, WIDE = "docs/LETTER.md", 75, 156
@@ -21,16 +24,6 @@ def tool(*words):
     return done.stdout if done.returncode == 0 else None
 
 
-def sources():
-    """The files that are proved: crates.txt, and of each crate code, definitions and proofs."""
-    files = ["crates.txt"]
-    for crate in sorted(os.listdir("crates")):
-        for part in ("src", "specs", "proofs"):
-            for folder, _, names in os.walk(f"crates/{crate}/{part}"):
-                files += [f"{folder}/{name}" for name in names]
-    return sorted(files, key=lambda f: f.encode())
-
-
 def digest(path):
     with open(path, "rb") as f:
         return hashlib.sha256(f.read()).hexdigest()
@@ -38,7 +31,7 @@ def digest(path):
 
 def sources_sum():
     """As by: find crates.txt crates/*/src crates/*/specs crates/*/proofs -type f | LC_ALL=C sort | xargs sha256sum | sha256sum"""
-    return hashlib.sha256("".join(f"{digest(f)}  {f}\n" for f in sources()).encode()).hexdigest()
+    return standing.sum_of(sorted(os.listdir("crates")))
 
 
 PARTS = ["crates.txt", *(f":(glob)crates/*/{part}/**" for part in ("src", "specs", "proofs"))]
@@ -56,21 +49,24 @@ def commit():
     sys.exit("letter.py: the crates are not committed")
 
 
-def verdict(name):
-    """The last line of a crate's verdict, and the logic's whole sum."""
-    try:
-        with open(f"target/log/{name}.say", encoding="utf-8") as f:
-            text = f.read()
-    except OSError:
-        return None, None
-    last = re.search(r"^logic=\S+.*$", text, re.M)
-    logic = re.search(r"^logic \S+: .*\bsum=([0-9a-f]{64})$", text, re.M)
+def verdict(said):
+    """The last line of a crate's verdict in what the prover said, and the logic's whole sum."""
+    last = re.search(r"^logic=\S+.*$", said, re.M)
+    logic = re.search(r"^logic \S+: .*\bsum=([0-9a-f]{64})$", said, re.M)
     return last and last.group(0), logic and logic.group(1)
 
 
-def crates():
-    with open("crates.txt", encoding="utf-8") as f:
-        return re.findall(r"^(\w+):", f.read(), re.M)
+def programs():
+    return [name for name in standing.crates() if os.path.exists(f"crates/{name}/src/main.rt")]
+
+
+def prove_again():
+    """What the prover says of each program, and of what C links."""
+    names = ["kiosk_export", *programs()]
+    for name in names:
+        standing.libraries(name)
+    with concurrent.futures.ThreadPoolExecutor(2) as pool:
+        return dict(zip(names, (said for _, said in pool.map(lambda name: standing.rattle("check", name, f"crates/{name}"), names))))
 
 
 def axioms(last):
@@ -78,26 +74,24 @@ def axioms(last):
     return int(found.group(1)) if found else 0
 
 
-def assumed():
+def assumed(said):
     """How many functions of the system each program assumes, as its verdict says; the library by the verdict of its archive."""
-    said = []
-    for name in crates():
-        if os.path.exists(f"crates/{name}/src/main.rt"):
-            last, _ = verdict(name)
-            if not last or not last.startswith("logic=proved"):
-                sys.exit(f"letter.py: target/log has no verdict of {name}: rt check")
-            said.append(f"{name} {axioms(last)}")
-    last, _ = verdict("kiosk_c")
-    if not last or not last.startswith("logic=proved"):
-        sys.exit("letter.py: target/log has no verdict of kiosk_c: rt check")
-    return f"the library {axioms(last) or 'none'}; " + ", ".join(said)
+    counts = {}
+    for name, text in said.items():
+        last, _ = verdict(text)
+        if not last or not last.startswith("logic=proved"):
+            sys.exit(f"letter.py: {name} is not proved: {text[-300:]}")
+        counts[name] = axioms(last)
+    return f"the library {counts.pop('kiosk_export') or 'none'}; " + ", ".join(f"{name} {count}" for name, count in counts.items())
 
 
 def archive():
-    """The archive's sum; it is made where it is not there. None where there is no rt to make it."""
-    if not os.path.exists(ARCHIVE) and shutil.which(RT):
-        tool(RT, "staticlib", "kiosk_c")
-    return digest(ARCHIVE) if os.path.exists(ARCHIVE) else None
+    """The archive's sum; it is made where it is not that of this tree. None where there is no rt to make it."""
+    if not shutil.which(RT):
+        return None
+    with standing.alone():
+        standing.archive("kiosk_export", ARCHIVE, "target/native/kiosk_c.bc")
+    return digest(ARCHIVE)
 
 
 def definitions():
@@ -119,10 +113,13 @@ def fill():
     kit, named = tool(RT, "version"), commit()
     if not kit:
         sys.exit("letter.py: rt is not at hand")
-    for words in (["check"], ["staticlib", "kiosk_c"]):
-        if subprocess.run([RT, *words], stdout=subprocess.DEVNULL).returncode != 0:
-            sys.exit(f"letter.py: rt {' '.join(words)} did not end well")
-    logic, made = verdict("kiosk_c")[1], archive()
+    if not standing.marked():
+        if subprocess.run([RT, "ci"], stdout=sys.stderr).returncode != 0:
+            sys.exit("letter.py: rt ci did not end well")
+        standing.mark()
+        standing.marked.cache_clear()
+    said = prove_again()
+    logic, made = verdict(said["kiosk_export"])[1], archive()
     cells = [
         ("what", "which"),
         ("---", "---"),
@@ -132,7 +129,7 @@ def fill():
         ("the sum of the kit's logic", f"`{logic}`"),
         ("the sum of the library as built for x86-64 processors, `libkiosk_c.a`", f"`{made}`"),
         ("our definitions, which a person must read", definitions()),
-        ("functions of the system that are assumed", assumed()),
+        ("functions of the system that are assumed", assumed(said)),
         ("the day on which this was filled in", datetime.datetime.now(datetime.timezone.utc).strftime("%Y-%m-%d")),
     ]
     text = open(LETTER, encoding="utf-8").read()
@@ -194,19 +191,25 @@ def check():
     return wrong
 
 
-def proved():
-    """What the verdicts and the archive of this tree say of it."""
+def proved(log):
+    """What the verdicts and the archive of this tree say of it. Of a crate that an earlier run proved, from the same files, `rt ci` says no more than that."""
     found, wrong = rows(open(LETTER, encoding="utf-8").read()), []
-    for name in crates():
-        last, logic = verdict(name)
-        if not last or not last.startswith("logic=proved"):
-            wrong.append(f"target/log has no verdict of {name}")
-        elif logic != bare(starting(found, "the sum of the kit's logic")):
+    listed = dict(re.findall(r"(\w+) (\d+)", starting(found, "functions of the system")))
+    text = open(log, encoding="utf-8").read()
+    blocks = dict(re.findall(r"^== (\w+)\n(.*?)^rt: \1 proved$", text, re.M | re.S))
+    kept = re.findall(r"^rt: (\w+) is kept: an earlier run", text, re.M)
+    for name in standing.crates():
+        last, logic = verdict(blocks.get(name, ""))
+        if name not in kept and (not last or not last.startswith("logic=proved")):
+            wrong.append(f"rt ci has no verdict of {name}")
+        elif name not in kept and logic != bare(starting(found, "the sum of the kit's logic")):
             wrong.append(f"{name} was proved with the logic {logic}")
-        elif "axioms=" in last and not os.path.exists(f"crates/{name}/src/main.rt"):
+        elif last and name in programs() and listed.get(name) != str(axioms(last)):
+            wrong.append(f"{name} assumes {axioms(last)} functions of the system, not {listed.get(name)}")
+        elif last and name not in programs() and "axioms=" in last:
             wrong.append(f"{name} is no program and assumes something: {last}")
-    if not wrong and starting(found, "functions of the system") != assumed():
-        wrong.append(f"what is assumed is: {assumed()}")
+    if sorted(listed) != sorted(programs()):
+        wrong.append(f"the programs are {', '.join(programs())}, and it tells of {', '.join(listed)}")
     made, kit = archive(), tool(RT, "version")
     if kit and other_kit(found, kit):
         print("another kit built the archive that is signed for: its sum is not compared")
@@ -220,7 +223,7 @@ def proved():
 mode = sys.argv[1:] or ["fill"]
 if mode == ["fill"]:
     fill()
-wrong = proved() if mode == ["proved"] else check()
+wrong = proved(mode[1]) if mode[0] == "proved" else check()
 for one in wrong:
     print(f"{LETTER}: {one}")
 print(f"{LETTER}: {'as this tree is' if not wrong else str(len(wrong)) + ' wrong'}")

@@ -2,7 +2,7 @@
 
 /// Raised by one whenever the tables' layout changes, or a function, a number, a word or a leg's bytes come to mean something else.
 pub const VERSION: u32 = 2;
-/// No journey takes more bytes, so a buffer of so many is never too short: theorem `length-most` of crates/raptor/proofs/Promises.antt.
+/// No journey takes more bytes, so a buffer of so many is never too short: theorem `length_most` of crates/raptor/proofs/Promises.antt.
 pub const MOST_JOURNEY: usize = 69_692;
 /// What a loader adds to every moment of the timetable: add it to what is asked, take it off what is shown.
 pub const DAY: u32 = 86_400;

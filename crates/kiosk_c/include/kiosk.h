@@ -39,8 +39,8 @@ extern "C" {
    more leaves it. Tables say their own layout, by their first word (docs/TABLES.md): those of another are answered with KIOSK_BAD_COUNT. */
 #define KIOSK_VERSION 2
 
-/* No journey takes more bytes (theorem `length-most` of crates/raptor/proofs/Promises.antt), so a buffer of so many is never answered with
-   KIOSK_TOO_LONG (theorem `never-too-long` of crates/kiosk_c/proofs/Enough.antt). */
+/* No journey takes more bytes (theorem `length_most` of crates/raptor/proofs/Promises.antt), so a buffer of so many is never answered with
+   KIOSK_TOO_LONG (theorem `never_too_long` of crates/kiosk_c/proofs/Enough.antt). */
 #define KIOSK_MOST_JOURNEY 69692
 
 #define KIOSK_DAY 86400                 /* what a loader adds to every moment of the timetable */
@@ -224,7 +224,7 @@ static inline uint32_t kiosk_ask_checked(const uint32_t *tables, size_t tables_l
 }
 
 /* The leg at the byte *at, and *at moves behind it: 1. Or 0, and *at stays: at the end of the bytes, or at the first byte of what is no leg.
-   In the bytes of an answer 0, as many as its length says, there is nothing but legs (theorem `faced-legs` of crates/kiosk_c/proofs/ReadBack.antt).
+   In the bytes of an answer 0, as many as its length says, there is nothing but legs (theorem `faced_legs` of crates/kiosk_c/proofs/ReadBack.antt).
 
        for (size_t at = 0; kiosk_next_leg(journey, answer.length, &at, &leg);) .. */
 static inline int kiosk_next_leg(const uint8_t *journey, size_t journey_len, size_t *at, kiosk_one_leg *leg) {
