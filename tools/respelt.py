@@ -1,6 +1,6 @@
 #!/usr/bin/env python3
 # Holds today's texts against those of a commit in the older spelling, word by word: each file of definitions (specs/), each clause of a function, each
-# file of lemmas (proofs/, but for the folders of functions). Words are turned as tools/snake_names.py and the kit's scripts turn them; brackets that group,
+# file of lemmas (proofs/, but for the folders of functions), each must-fail edit but for the imports that it brings in. Words are turned as tools/snake_names.py and the kit's scripts turn them; brackets that group,
 # imports and comments do not count. Whatever else differs is printed; it is for a reader to judge.
 #   respelt.py COMMIT
 import difflib, os, re, subprocess, sys
@@ -66,31 +66,44 @@ def clauses(text, older):
         for kind, fact in re.findall(r"(requires|ensures)(?:\s+\w+)?\s*\{(.*?)\}(?=\s*(?:requires|ensures|$))", head, re.S):
             fact = fact.strip()
             if older:
-                fact = re.sub(r"[«»]", "", fact)
                 bound = re.match(r"λ\s*(\w+)\s*\.\s*", fact) if kind == "ensures" else None
                 if bound:
                     fact = fact[bound.end():]
                     if bound[1] != "_":
                         fact = re.sub(rf"(?<![\w.'-]){bound[1]}(?![\w'-])", "result", fact)
-                fact = re.sub(r"[⌜⌝∗]", " ", fact)
-                fact = re.sub(r"\bnow \((\w+) \.(entry|exit)\)", r"\1.\2", fact)
-                fact = re.sub(r"\bnow \((\w+) \.(entry) \.(\w+)\)", r"\1.\2.\3.entry", fact)
-                fact = re.sub(r"\bnow (\w+)", r"\1.entry", fact)
-            fact = re.sub(r"\.(old|now)\b", ".entry", re.sub(r"\.new\b", ".exit", fact))
-            said[kind] += words(fact)
+            said[kind] += words(of_today(fact))
         found.append((m[1], said))
     return found
 
 
+def of_today(fact):
+    """A clause's text with the names of a value before and after in one form."""
+    fact = re.sub(r"(?<!\.)\bnow \((\w+) \.(entry) \.(\w+)\)", r"\1.\2.\3.entry", re.sub(r"[⌜⌝∗]", " ", re.sub(r"[«»]", "", fact)))
+    fact = re.sub(r"(?<!\.)\bnow (\w+)", r"\1.entry", re.sub(r"(?<!\.)\bnow \((\w+) \.(entry|exit)\)", r"\1.\2", fact))
+    return re.sub(r"\.(old|now)\b", ".entry", re.sub(r"\.new\b", ".exit", fact))
+
+
+def edited(text):
+    """What an edit changes: its lines, as words."""
+    found = []
+    for line in text.split("\n"):
+        kind, _, rest = line.partition(": ")
+        if kind not in ("old", "new"):
+            found.append([line])
+        elif not re.match(r"(ghost )?use ", rest):
+            found.append([kind] + words(of_today(rest)))
+    return [word for line in found for word in line]
+
+
 def main():
     commit = sys.argv[1]
-    counts = {"definitions": 0, "clauses": 0, "lemmas": 0}
+    counts = {"definitions": 0, "clauses": 0, "lemmas": 0, "edits": 0}
     differ = 0
     for path in subprocess.run(["git", "ls-tree", "-r", "--name-only", commit, "crates"], capture_output=True, text=True).stdout.split("\n"):
         today = path
         for old, new in MOVED.items():
             today = today.replace(old, new)
-        of = re.match(r"crates/\w+/(?:(specs/.*|proofs/[A-Z]\w*)\.antt|src/.*\.rt)$", path)
+        of = re.match(r"crates/\w+/(?:(specs/.*|proofs/[A-Z]\w*)\.antt|src/.*\.rt|must-fail/.*\.edit)$", path)
         if not of or path.endswith("/Lib.antt"):
             continue
         if not os.path.exists(today):
@@ -98,6 +111,10 @@ def main():
             differ += 1
             continue
         text = open(today, encoding="utf-8").read()
+        if path.endswith(".edit"):
+            counts["edits"] += 1
+            differ += told(path, edited(shown(commit, path)), edited(text))
+            continue
         if of[1]:
             counts["definitions" if of[1].startswith("specs") else "lemmas"] += 1
             differ += told(path, words(shown(commit, path)), words(text))
@@ -112,7 +129,10 @@ def main():
             there = (now.get(name) or [{"requires": [], "ensures": []}]).pop(0)
             for kind in said:
                 differ += told(f"{path}, {name}, {kind}", said[kind], there[kind])
-    print(f"{counts['definitions']} files of definitions, {counts['clauses']} functions with clauses, {counts['lemmas']} files of lemmas: {differ} places differ")
+    print(
+        f"{counts['definitions']} files of definitions, {counts['clauses']} functions with clauses, {counts['lemmas']} files of lemmas, "
+        f"{counts['edits']} files of must-fail edits: {differ} places differ"
+    )
 
 
 main()
