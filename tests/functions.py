@@ -269,8 +269,9 @@ page = """# Every public function
 
 Made by `tests/functions.py` from the sources: of each public function of a crate, the file in which its contract stands over its body, how much
 it asks of its caller (`requires`), what it states of its result and of everything lent (`ensures`), and by what two results that meet that are equal.
-[README.md](../README.md) leads to the other pages. The functions that other programs call, `raptor` and `kiosk_c`, ask for nothing, but for the forms named `_checked`, which ask for tables that were
-checked.
+[README.md](../README.md) leads to the other pages. The functions that other programs call, those of `raptor` and `kiosk_c`, ask for nothing,
+but for the forms named `_checked`, which ask for tables that were checked. What C links, `kiosk_export` and `gtfs_export`, has the contracts of `kiosk_c` and
+`gtfs_c` once more.
 
 What is stated is the contract's own text. A slice that may be written is `words.old` as it comes and `words.new` as it is left, one that is only read is
 `tables.now`, and what is given back is the `result`. The definitions named stand in

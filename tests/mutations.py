@@ -350,11 +350,11 @@ def run(*words):
 
 
 def try_some(ways):
-    """Tries some of the ways in a copy of the tree, without target/; what was not noticed."""
+    """Tries some of the ways in a copy of the tree, without what is built; what was not noticed."""
     global room
     missed, room = [], os.path.join(tempfile.mkdtemp(), "tree")
     try:
-        shutil.copytree(HERE, room, ignore=shutil.ignore_patterns("target", ".git", "__pycache__"))
+        shutil.copytree(HERE, room, ignore=shutil.ignore_patterns("target", "out", ".git", "__pycache__"))
         for at in ways:
             what, damage, anew, test, wanted = MUTATIONS[at]
             damage()

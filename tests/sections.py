@@ -148,6 +148,8 @@ def main():
         faults.append("%s: there are %d sections" % (SPECS, len(sections)))
     files = 0
     for folder, _, names in sorted(os.walk(os.path.join(TREE, "crates"))):
+        if "out" in os.path.relpath(folder, TREE).split(os.sep):  # what is built
+            continue
         for name in sorted(names):
             path = os.path.relpath(os.path.join(folder, name), TREE)
             if not name.endswith((".antt", ".rt")) or path in (SPECS, CODE):
