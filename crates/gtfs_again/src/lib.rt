@@ -1,4 +1,4 @@
-// Rows written to two files and read again: whether they are the same.
+// Rows written to two files and read again: whether they are the same. An error is that of a print which failed.
 #![tactic(auto)]
 
 ghost use Rattle.std.specs.Prelude.{◌≡◌};

@@ -1,4 +1,4 @@
-// A feed in words: how its reading ended, how much was taken, and the rows.
+// A feed in words: how its reading ended, how much was taken, and the rows. An error is that of the write which failed.
 #![tactic(auto)]
 
 use gtfs_read::Told;

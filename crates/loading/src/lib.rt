@@ -214,7 +214,7 @@ pub fn load(rt: &impl Files, path: &[u8], tables: &mut [u32]) -> Words {
     }
 }
 
-// Says what stopped the reading.
+// Says what stopped the reading. An error is that of the write which failed.
 pub fn print_fault(rt: &impl Print, path: &[u8], w: Words) -> io::Result<()> {
     print::text(rt, b"tables: ")?;
     print::text(rt, path)?;

@@ -54,7 +54,8 @@ fn load_named(rt: &(impl Files + Print), arg: &[u8], tables: &mut [u32]) -> io::
     }))
 }
 
-// The tables of the file that argument `file` names, which is left in `buffer`; network N for 0.
+// The tables of the file that argument `file` names, which is left in `buffer`; network N for 0. An error is that of a write
+// which failed: what is wrong with the tables could not be said.
 pub fn load(
     rt: &(impl Env + Files + Print),
     buffer: &mut [u8],

@@ -1,4 +1,5 @@
-// What the programs print of an answer: numbers, legs, and the legs that journey bytes hold.
+// What the programs print of an answer: numbers, legs, and the legs that journey bytes hold. An error is that of the write which failed;
+// what was printed before it stays printed.
 #![tactic(auto)]
 
 ghost use Rattle.std.specs.Prelude.{◌≡◌, ◌≤◌};

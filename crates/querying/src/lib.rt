@@ -240,7 +240,8 @@ fn read_rest(
     read_asked(rt, buffer, from, to, direction, t)
 }
 
-// What the arguments ask. `buffer` holds one argument at a time.
+// What the arguments ask. `buffer` holds one argument at a time. An error is that of a write which failed: what is wrong with an argument
+// could not be said.
 pub fn read_query(rt: &(impl Env + Print), buffer: &mut [u8]) -> io::Result<Asked> {
     let Spot::At(f) = read_place(rt, buffer, 1, b"FROM")? else {
         return Ok(Asked::Bad);

@@ -1,4 +1,4 @@
-// The number of a refusal and what it means, in words.
+// The number of a refusal and what it means, in words. An error is that of the write which failed.
 #![tactic(auto)]
 
 pub mod meant; // meant.rt: which stops a place stands for, which place there is none of

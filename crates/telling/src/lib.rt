@@ -1,4 +1,4 @@
-// An answer in words: the journey, leg by leg, or the number of a refusal and what it means.
+// An answer in words: the journey, leg by leg, or the number of a refusal and what it means. An error is that of the write which failed.
 #![tactic(auto)]
 
 mod moment; // moment.rt: a moment as a clock shows it
