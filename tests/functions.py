@@ -75,6 +75,8 @@ LAWS = {
     "Tidy": ("allocator/proofs/Same.antt", "same_words"),
 }
 BESIDE = ("Usable", "Tidy")  # nothing stands beside the state: the rest is said by the state itself
+# What C links: each function of a library once more, with the same clauses.
+EXPORTS = {"kiosk_export": "kiosk_c", "gtfs_export": "gtfs_c"}
 EQUATION = "equation"
 # The same of what is given back where no read and no write fails.
 ON_OK = "equation on `Ok`"
@@ -264,6 +266,15 @@ for crate in FILES:
         rows.append(f"| `{f.where}` | [`{f.path[len('crates/'):]}`](../{f.path}) | {len(f.asks) or ''} | {stated(f) or 'nothing'} | {unique} |")
 for name in sorted((set(OUTSIDE) | set(LESS) | set(OPEN) | set(OWN)) - met):
     complain(f"tests/functions.py: there is no function {name}")
+
+for crate, library in EXPORTS.items():
+    exported, own = ({f.name: f for f in FUNCTIONS[c] if f.public} for c in (crate, library))
+    for name in sorted(set(exported) ^ set(own)):
+        complain(f"crates/{crate}/src/lib.rt: {crate} and {library} do not both have {name}")
+    for name, f in exported.items():
+        contract = lambda g: (g.parameters.split(), g.result, g.asks, g.says)
+        if name in own and contract(f) != contract(own[name]):
+            complain(f"{f.path}: {f.where} has not the parameters and clauses of {own[name].where}")
 
 page = """# Every public function
 

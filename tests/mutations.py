@@ -236,6 +236,8 @@ MUTATIONS = [
     ("an exception that is no function", listed("OPEN", "shared::time_to_fly", "open"), True, FUNCTIONS, "there is no function shared::time_to_fly"),
     ("a law of a function's own that is gone", lambda: sub("crates/csv_text/proofs/Stepping.antt", "pub line_once :", "pub line_twice :"), True, FUNCTIONS, "csv_text::line leaves open its result"),
     ("a law of its own for a function that needs none", lambda: sub(LISTS, "\nOWN = {", '\nOWN = {\n    "shared::time_to_walk": ("csv_text/proofs/Parts.antt", "part_ends"),\n'), True, FUNCTIONS, "shared::time_to_walk is listed in OWN"),
+    ("an export with a clause of its own", lambda: sub("crates/kiosk_export/src/lib.rt", "{ result ≡ check_of tables.now }", "{ result ≡ check_of [] }"), True, FUNCTIONS, "kiosk_export::kiosk_check has not the parameters and clauses of kiosk_c::kiosk_check"),
+    ("an export that is left out", lambda: sub("crates/gtfs_c/src/lib.rt", "pub fn kiosk_gtfs_read(", "pub fn kiosk_gtfs_read_both("), True, FUNCTIONS, "gtfs_export and gtfs_c do not both have kiosk_gtfs_read"),
     ("the page of functions changed by hand", lambda: sub("docs/FUNCTIONS.md", "| equation |", "| equations |"), False, FUNCTIONS, "is not what tests/functions.py writes"),
     ("a statement changed, and the page of functions not", checked_says("result ≡ check_of []"), False, FUNCTIONS, "is not what tests/functions.py writes"),
     ("a parameter called as a clause calls what is given back", added(LIB, "pub fn more(result: u32) -> u32\n    ensures { result ≡ result }\n{\n    result\n}\n"), True, FUNCTIONS, "allocator::more calls a parameter `result`"),
