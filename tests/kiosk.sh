@@ -428,7 +428,7 @@ PATH=\${PATH#*:} exec rt "\$@"
 END
 chmod +x rt/rt
 PATH=$room/rt:$PATH
-told() { sed 's/, [0-9]* s$//' said | grep -Fqx "$1" || { echo "./kiosk does not say: $1"; cat said; exit 1; }; }
+told() { grep -Eqx "$1, [0-9]+ s" said || { echo "./kiosk does not say: $1"; cat said; exit 1; }; }
 ran='rt: running out/kiosk; to give it other input, run that file yourself'
 printf '%s\n' 'rt: chose --jobs 2 for model' 'fn model::a: proved' 'crate model: modules loaded=1 checked=2' 'logic=proved functions=1' "$ran" >run
 echo 0 >ends

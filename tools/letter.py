@@ -210,6 +210,12 @@ def proved(log):
             wrong.append(f"{name} is no program and assumes something: {last}")
     if sorted(listed) != sorted(programs()):
         wrong.append(f"the programs are {', '.join(programs())}, and it tells of {', '.join(listed)}")
+    # what is kept has no verdict in the log: the programs and what C links are asked once more
+    again = prove_again()
+    if verdict(again["kiosk_export"])[1] != bare(starting(found, "the sum of the kit's logic")):
+        wrong.append(f"the logic here is {verdict(again['kiosk_export'])[1]}")
+    if starting(found, "functions of the system") != assumed(again):
+        wrong.append(f"what is assumed is: {assumed(again)}")
     made, kit = archive(), tool(RT, "version")
     if kit and other_kit(found, kit):
         print("another kit built the archive that is signed for: its sum is not compared")

@@ -1,0 +1,2 @@
+-- A law on a part of a slice.
+pub mod Parts

@@ -1,0 +1,2 @@
+-- Laws on a part of a slice.
+pub mod Parts
