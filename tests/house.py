@@ -16,7 +16,11 @@ TWICE = {
     "Chosen": ("model raptor_reply", "the routes that are chosen, and the stop that is: document 01 has one word for both"),
 }
 # A law or a definition that nothing reaches, and why it stays.
-ALONE = {}
+ALONE = {
+    "spot_said": "querying: the check finds it by itself today; kept as it had landed",
+    "part_has": "refusing: as above",
+    "part_few": "checkjourney: as above",
+}
 NAME = r"[^\s(){}«»,;:\[\]λ.]+"
 TOKEN = re.compile(r"[^\W\d_][\w'⁺₀-₉ᴰ-]*")
 # What is written of the proof of one function, in its own folder; and how `#[tactic(..)]` names a law or a definition.

@@ -334,6 +334,8 @@ MUTATIONS = [
     ("a third definition of a name that two share", added("crates/journey/specs/Parts.antt", "pub record Chosen : Type 0 where\n  pub one : ℕ\n"), False, RULES, "both define Chosen"),
     ("a file that cites two definitions of one name", lambda: sub("crates/raptor_reply/specs/Chosen.antt", "\nuse ", "\nuse Rattle.model.specs.Choosing.{Chosen as Routes}\nuse "), False, RULES, "it cites two definitions of Chosen"),
     ("a law that nobody cites", added("crates/marks/proofs/Laws.antt", "pub no_one_asks : 0 ≡ 0\nno_one_asks = refl\n"), False, RULES, "nothing reaches no_one_asks"),
+    ("a law that nobody cites, in a file that is called as answers are", added("crates/model/proofs/Answers.antt", "pub no_one_asks : 0 ≡ 0\nno_one_asks = refl\n"), False, RULES, "nothing reaches no_one_asks"),
+    ("a definition that cites a law of the kit", added("crates/marks/specs/Marks.antt", "use Rattle.std.proofs.Common.{add_comm}\n"), False, RULES, "a definition cites a proof: Rattle.std.proofs.Common"),
     ("two laws that cite only each other", added("crates/marks/proofs/Laws.antt", "island : 0 ≡ 0\nisland = strand\n\nstrand : 0 ≡ 0\nstrand = island\n"), False, RULES, "nothing reaches strand"),
     ("a definition that nobody cites", added("crates/marks/specs/Marks.antt", "unfoldable pub idle_mark : ℕ → ℕ\nidle_mark n = n\n"), False, RULES, "nothing reaches idle_mark"),
     ("a page that is not there", lambda: sub("docs/TABLES.md", "](PROMISES.md)", "](PROMISED.md)"), False, RULES, "a link leads nowhere: PROMISED.md"),
