@@ -6,7 +6,8 @@
 # and never of its body. A refusal that only says that something else was not admitted comes from there, and one that misses a module or a
 # goal by its name from there too or from the code's shape: neither counts. Where something is refused that speaks of no part, nothing is concluded.
 # `rt ci` keeps no more of what the prover says than its first line, so the prover is asked once more, over the libraries that stand (tools/proved.py); what
-# it says is kept in target/edits for as long as nothing changes.
+# it says is kept in target/edits for as long as nothing changes. A goal is named by the tests on its way (`returns-then-n-eq8`), so a part that changes such a test
+# changes the names of goals too: where a part has no refusal for that, the answers get the new names, and the prover is asked again.
 #   edits.py         after `rt ci`: every part. With names of crates those alone
 #   edits.py before  before it: whether each part can have a refusal of its own; and the script itself is tried on a kept case (tests/edits), where a part
 #                    that is no fault must be seen, and one that hides behind another
@@ -66,10 +67,41 @@ def tried():
     crate, said, got = Crate(f"{CASE}/crate", "shared"), read(f"{CASE}/said"), []
     for line in read(f"{CASE}/lines").split("\n")[:-1]:  # other things that it says: whether each is a refusal of its own
         got.append(f"{'own' if refused(crate, line) else 'not its own'}: {line}")
+    with tempfile.TemporaryDirectory() as room:  # answers to goals that an edit renamed
+        for file, text in crate.texts.items():
+            os.makedirs(os.path.dirname(f"{room}/{file}"), exist_ok=True)
+            with open(f"{room}/{file}", "w", encoding="utf-8") as f:
+                f.write(text)
+        os.makedirs(f"{room}/proofs/distance_ok")
+        shutil.copyfile(f"{CASE}/answers", f"{room}/proofs/distance_ok/Answers.antt")
+        got += [f"renamed: {renamed(room, 'shared', read(f'{CASE}/gone'))}", *(line for line in read(f"{room}/proofs/distance_ok/Answers.antt").split("\n") if line)]
     for edit in sorted(glob.glob(f"{CASE}/*.parts")):
         wrong, _ = wrong_of(crate, read(edit), said)
         got += [f"{os.path.basename(edit)[:-6]}: {w}" for w in wrong or ["nothing is wrong"]]
     return got
+
+
+def renamed(room, name, said):
+    """Gives the answers to goals that an edit renamed their new names, in a copy of the crate: the test in the name of a goal that is gone, and the one in the
+    name of a goal of the same function that is not proved. Whether there was one."""
+    crate, done = Crate(room, name), set()
+    gone = re.findall(r"proofs/(\S+)/Answers\.antt:\d+:\d+: error: `\S+`: `goal\.(\S+?)`: module \S+ has no `\2` that can be named", said)
+    open_goals = re.findall(r"^note: (src/\S+\.rt):(\d+):\d+: it is not proved that .*?\(`([^`]+)`\)", said, re.M)
+    parts_of_goal = lambda goal: re.match(r"(\w+-(?:then|else|in)-)(.+?)((?:-clause-.*)?)$", goal)
+    for folder, old in gone:
+        f, was = crate.functions.get(folder.replace("/", "::")), parts_of_goal(old)
+        lines = f and range(crate.texts[f.file].count("\n", 0, f.starts) + 1, crate.texts[f.file].count("\n", 0, f.ends) + 2)
+        for file, line, new in open_goals if f and was and (folder, was.group(2)) not in done else ():
+            now = parts_of_goal(new)
+            if not now or file != f.file or int(line) not in lines or (was.group(1), was.group(3)) != (now.group(1), now.group(3)):
+                continue
+            done.add((folder, was.group(2)))
+            path = f"{room}/proofs/{folder}/Answers.antt"
+            text = re.sub(rf"(?<=-){re.escape(was.group(2))}(?=-clause-|[^\w-]|$)", now.group(2), read(path), flags=re.M)
+            with open(path, "w", encoding="utf-8") as out:
+                out.write(text)
+            break
+    return bool(done)
 
 
 def said_of(name, label, edit):
@@ -89,6 +121,8 @@ def said_of(name, label, edit):
                 with open(f"{room}/{file}", "w", encoding="utf-8") as f:
                     f.write(text.replace(old, new))
         status, said = proved.rattle("check", name, room)
+        if status == 1 and any("NOT REFUSED" in w for w in wrong_of(Crate(f"{HERE}/crates/{name}", name), edit, said)[0]) and renamed(room, name, said):
+            status, said = proved.rattle("check", name, room)
     if status != 1 or not said.rstrip("\n").endswith("logic=not-proved"):
         return f"NOT TRIED: the prover ended with status {status}: {said[-300:]}"
     os.makedirs(os.path.dirname(log), exist_ok=True)
