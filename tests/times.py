@@ -55,7 +55,8 @@ def written():
 
 The seconds are those of the kit before today's, in which each crate was proved first: `rt ci` gave them for each crate on 2 cores (Arm), two crates side by
 side, on a machine which takes {slower:.2f} times as long as that of the rule. Today's `rt ci` gives no seconds. There a file of must-fail edits cost its crate's whole check
-again: the {sum(c[0] for c in counts.values())} edits, in {sum(c[1] for c in counts.values())} files, took {extra // 60} minutes of one core, the crates {seconds // 60}. `tests/times.py write` makes this page.
+again: those that it measured took {extra // 60} minutes of one core, the crates {seconds // 60}. Today there are {sum(c[0] for c in counts.values())} edits, in {sum(c[1] for c in counts.values())} files.
+`tests/times.py write` makes this page.
 [README.md](../README.md) leads to the other pages; [BENCHMARKS.md](BENCHMARKS.md) has the times of the search itself.
 
 | crate | seconds | must-fail edits | files of them | seconds of them all |
