@@ -25,7 +25,6 @@ OUTSIDE = {
     "network::load": READS,
     "refusing::meant::print_meant": PRINTS,
     "refusing::meant::print_missing": PRINTS,
-    "telling::moment::print_moment": PRINTS,
     "refusing::print_meaning": PRINTS,
     "telling::tell_asked": PRINTS,
     "gtfs_again::write_and_read": PRINTS,
@@ -63,6 +62,7 @@ OWN = {
     "csv_text::line": ("csv_text/proofs/Stepping.antt", "line_once"),
     "gtfs_headers::start": ("gtfs_headers/proofs/Marks.antt", "start_ends"),
     "names::clear": ("names/proofs/Clearing.antt", "empty_unique"),
+    "allocator::Workspace::new": ("allocator/proofs/Unique.antt", "over_unique"),
 }
 # What fixes the words and marks or the whole where a clause is no equation: a word of the clause, and the law that two things it holds of are equal.
 LAWS = {
@@ -71,9 +71,16 @@ LAWS = {
     "Ran": ("raptor/proofs/Unique.antt", "ran_unique"),
     "Tells": ("asking/proofs/Unique.antt", "asked_unique"),
     "Does": ("allocator/proofs/Unique.antt", "does_unique"),
+    "Becomes": ("allocator/proofs/Unique.antt", "becomes_unique"),
     "Usable": ("allocator/proofs/Same.antt", "same_words"),
     "Tidy": ("allocator/proofs/Same.antt", "same_words"),
 }
+# What tells two results apart: a definition that a clause puts before the result, and the law that it gives no two of them one value.
+TELLS = {
+    "number_given": ("model/proofs/Refusals.antt", "given_once"),
+    "by_number": ("gtfs_write/proofs/Numbered.antt", "by_number_once"),
+}
+OPERATIONS = ("Does", "Becomes")  # what the operation is must itself be fixed
 BESIDE = ("Usable", "Tidy")  # nothing stands beside the state: the rest is said by the state itself
 # What C links: each function of a library once more, with the same clauses.
 EXPORTS = {"kiosk_export": "kiosk_c", "gtfs_export": "gtfs_c"}
@@ -157,10 +164,10 @@ def fixed_by(f, what):
             spoken = True
             for law in (w for w in LAWS if re.search(rf"(?<![\w-]){w}(?![\w-])", c) and source(*LAWS[w])):
                 told = " ".join(a for a in arguments(c) if not re.fullmatch(r"\S+\.new", a))
-                if law == "Does" and re.search(shape, told):
+                if law in OPERATIONS and re.search(shape, told):
                     continue  # the operation is told by what it leaves
                 laws.append(law)
-                if law == "Does":  # what the operation is must itself be fixed: all of it but the words and marks that it leaves
+                if law in OPERATIONS:  # all of the operation but what it leaves
                     rests |= {w for w in others if re.search(shape_of(w), told)}
             both = sides(c)
             for side, other in (both, both[::-1]) if both else ():
@@ -170,6 +177,9 @@ def fixed_by(f, what):
                 on = {w for w in others if re.search(shape_of(w), other)}
                 if re.fullmatch(rf"{shape}(?:\.now)?", side):
                     return ON_OK if is_on_ok else EQUATION, on
+                told = re.fullmatch(rf"(\w+) {shape}", side)
+                if told and told.group(1) in TELLS and source(*TELLS[told.group(1)]):
+                    return TELLS[told.group(1)][1], on
                 field = re.fullmatch(rf"{shape}\.(\w+)", side) if not what else None
                 if field:
                     fields.add(field.group(1))
@@ -178,7 +188,7 @@ def fixed_by(f, what):
     if fields and fields >= fields_of(f.result):
         return EQUATION, rests
     if laws and laws[0] not in BESIDE:
-        return laws[0], rests if laws[0] == "Does" else set()
+        return laws[0], rests if laws[0] in OPERATIONS else set()
     # the state that words and marks hold is said whole, and that nothing stands beside it
     beside = next((w for w in BESIDE for c in f.says if re.search(rf"(?<![\w-]){w}(?![\w-])", c) and source(*LAWS[w])), None)
     if state and beside:
@@ -258,7 +268,7 @@ for crate in FILES:
                 complain(f"{f.path}: {f.where} does not say {', '.join(unsaid)}")
             elif loose:
                 complain(f"{f.path}: {f.where} leaves open {', '.join(loose)}")
-        laws = {f"`{(LAWS | OWN)[b][1]}`" for b in by.values() if b in LAWS or b in OWN}
+        laws = {f"`{(LAWS | OWN)[b][1]}`" for b in by.values() if b in LAWS or b in OWN} | {f"`{law}`" for b in by.values() for _, law in TELLS.values() if b == law}
         if f.where in OWN and f.where not in by.values():
             complain(f"{f.path}: {f.where} is listed in OWN, and its law is not there or not needed")
         reason = OUTSIDE.get(f.where) or LESS.get(f.where) or (f.where in OPEN and "open: " + OPEN[f.where]) or ""
@@ -290,12 +300,13 @@ What is stated is the contract's own text. A slice that may be written is `words
 
 The last column: *equation*, where the result and each slice that may be written is said to be equal to something; then two results are equal at once;
 *equation on `Ok`*, where that is said of what is given back if no read and no write fails.
-`does_unique` (`allocator/proofs/Unique.antt`), where it is the record `Does`; `same_words` (`allocator/proofs/Same.antt`), where it says the state that
+`does_unique` and `becomes_unique` (`allocator/proofs/Unique.antt`), where it is the record `Does` or `Becomes`; `same_words` (`allocator/proofs/Same.antt`), where it says the state that
 words and marks hold and that they are `Tidy` or `Usable` (nothing stands beside that state): two tidy workspaces of one state are equal word for word.
 `solved_unique`, `ran_unique`
 (`raptor/proofs/Unique.antt`), `faced_unique` (`kiosk_c/proofs/Unique.antt`) and `asked_unique` (`asking/proofs/Unique.antt`), where it is the record
-`Solved`, `Ran`, `Faced` or `Tells`. `part_ends` (`csv_text/proofs/Parts.antt`), `start_ends` (`gtfs_headers/proofs/Marks.antt`) and `empty_unique`
-(`names/proofs/Clearing.antt`), for one or two functions each. What prints or reads, states less, or is left open stands there with the reason; `tests/functions.py` has the lists,
+`Solved`, `Ran`, `Faced` or `Tells`. `given_once` (`model/proofs/Refusals.antt`) and `by_number_once` (`gtfs_write/proofs/Numbered.antt`), where
+a refusal is told by its number. `part_ends` (`csv_text/proofs/Parts.antt`), `start_ends` (`gtfs_headers/proofs/Marks.antt`), `empty_unique`
+(`names/proofs/Clearing.antt`) and `over_unique` (`allocator/proofs/Unique.antt`), for one or two functions each. What prints or reads, states less, or is left open stands there with the reason; `tests/functions.py` has the lists,
 function by function, and refuses a name that stands there without need.
 
 | function | where | asks | states | unique by |

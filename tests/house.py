@@ -16,11 +16,7 @@ TWICE = {
     "Chosen": ("model raptor_reply", "the routes that are chosen, and the stop that is: document 01 has one word for both"),
 }
 # A law or a definition that nothing reaches, and why it stays.
-ALONE = {
-    "spot_said": "querying: the check finds it by itself today; kept as it had landed",
-    "part_has": "refusing: as above",
-    "part_few": "checkjourney: as above",
-}
+ALONE = {}
 NAME = r"[^\s(){}«»,;:\[\]λ.]+"
 TOKEN = re.compile(r"[^\W\d_][\w'⁺₀-₉ᴰ-]*")
 # What is written of the proof of one function, in its own folder; and how `#[tactic(..)]` names a law or a definition.
@@ -111,7 +107,7 @@ def proves(one):
 
 # ==== specs hold definitions and cite no proofs; a contract cites none either
 # The modules of the kit's proofs in which stand definitions that ours are made of.
-THEIRS = ("Rattle.std.proofs.Math.Option", "Rattle.std.proofs.lemmas.List.Edits")
+THEIRS = ("Rattle.std.proofs.lemmas.List.Edits",)
 for path in files("crates/*/specs/**/*.antt"):
     for one in declared(path)[0]:
         if one.kind == "law" or proves(one):
@@ -127,7 +123,7 @@ for path in files("crates/*/src/**/*.rt"):
 # ==== no wide line of code
 for path in files("crates/*/src/**/*.rt"):
     for number, line in enumerate(text_of(path).split("\n"), 1):
-        if len(line) > WIDEST:
+        if len(line) > WIDEST and not line.lstrip().startswith("#[tactic("):  # the layout keeps an attribute on one line
             complain(f"{path}, line {number}", f"{len(line)} characters, and {WIDEST} are the most")
 
 # ==== no function of a library with more than seven parameters, unless it is said why
@@ -156,7 +152,7 @@ for path in tracked + ["test", "kiosk", "checkjourney"] + [p for p in scripts if
 # ==== a name of the definitions means one thing
 where = {}
 # The modules of the kit's proofs in which stand definitions that ours are made of.
-THEIRS = ("Rattle.std.proofs.Math.Option", "Rattle.std.proofs.lemmas.List.Edits")
+THEIRS = ("Rattle.std.proofs.lemmas.List.Edits",)
 for path in files("crates/*/specs/**/*.antt"):
     for one in declared(path)[0]:
         if one.public:

@@ -140,7 +140,7 @@ def checked_says(new):
 
     def damage():
         head = head_of("crates/check_tables/src/lib.rt", "check")
-        sub("crates/check_tables/src/lib.rt", head, re.sub(r"\{ (result ≡ .*?) \}", lambda m: f"{{ {new.replace('SAID', m.group(1))} }}", head))
+        sub("crates/check_tables/src/lib.rt", head, re.sub(r"\{ (number_given result ≡ .*?) \}", lambda m: f"{{ {new.replace('SAID', m.group(1))} }}", head))
 
     return damage
 
@@ -153,7 +153,7 @@ def state_only():
 
 def nothing_of_the_result():
     head = head_of("crates/check_tables/src/lib.rt", "check")
-    sub("crates/check_tables/src/lib.rt", head, re.sub(r"\{ result ≡ .*? \}", "{ 0 ≡ 0 }", head))
+    sub("crates/check_tables/src/lib.rt", head, re.sub(r"\{ number_given result ≡ .*? \}", "{ 0 ≡ 0 }", head))
 
 
 def sentence_and_row_gone():
@@ -218,18 +218,20 @@ def part_added(file, old, new):
 MUTATIONS = [
     ("a public function that returns a slice and states nothing", added(LIB, "pub fn part(words: &[u32]) -> &[u32] {\n    words\n}\n"), True, FUNCTIONS, "allocator::part states nothing"),
     ("a public function that returns an array and states nothing", added(LIB, "pub fn pair() -> [u32; 2] {\n    [0, 0]\n}\n"), True, FUNCTIONS, "allocator::pair states nothing"),
-    ("a public method that states nothing", added(LIB, "impl Parent {\n    pub fn first(&self) -> u32 {\n        0\n    }\n}\n"), True, FUNCTIONS, "allocator::Parent::first states nothing"),
+    ("a public method that states nothing", added(LIB, "impl Offer {\n    pub fn first(&self) -> u32 {\n        0\n    }\n}\n"), True, FUNCTIONS, "allocator::Offer::first states nothing"),
     ("a public function for C that states nothing", added("crates/kiosk_c/src/lib.rt", '#[unsafe(no_mangle)]\npub extern "C" fn kiosk_more() -> u32 {\n    0\n}\n'), True, FUNCTIONS, "kiosk_c::kiosk_more states nothing"),
     *(
         (f"one in {where}", added(f"crates/{where.replace('::', '/src/', 1)}.rt", "pub fn more() -> u32 {\n    0\n}\n"), True, FUNCTIONS, f"{where.removesuffix('::lib')}::more states nothing")
-        for where in ("asking::lib", "print::lib", "lines::lib", "replay::probe", "telling::moment")
+        for where in ("asking::lib", "print::lib", "lines::lib", "replay::probe", "refusing::meant")
     ),
     ("a slice that may be written, and nothing said of it", dropped_clause, True, FUNCTIONS, "kiosk_read does not say what it leaves in told"),
-    ("a result of which only a bound is said", checked_says("result ≤ 5"), True, FUNCTIONS, "check_tables::check leaves open its result"),
-    ("a result that is said only on a condition", checked_says("result ≡ 0 → SAID"), True, FUNCTIONS, "check_tables::check leaves open its result"),
+    ("a result of which only a bound is said", checked_says("number_given result ≤ 5"), True, FUNCTIONS, "check_tables::check leaves open its result"),
+    ("a result that is said only on a condition", checked_says("number_given result ≡ 0 → SAID"), True, FUNCTIONS, "check_tables::check leaves open its result"),
     ("a workspace of which only the state is said", state_only, True, FUNCTIONS, "raptor_rounds::search leaves open its result, what it leaves in words, what it leaves in marks"),
-    ("an operation that is told by what it leaves", lambda: sub(LIB, "Does stops routes (swapped stops)", "Does stops routes (λ _. view stops routes words.new marks.new)"), True, FUNCTIONS, "allocator::swap_labels leaves open what it leaves in words, what it leaves in marks"),
-    ("a result that is said to be itself", checked_says("result ≡ result"), True, FUNCTIONS, "check_tables::check leaves open its result"),
+    ("an operation that is told by what it leaves", lambda: sub(LIB, "Becomes (swapped self.old.stops)", "Becomes (λ _. state self.new)"), True, FUNCTIONS, "allocator::Workspace::swap_labels leaves open what it leaves in self"),
+    ("a workspace of which nobody says over what it lies", lambda: sub(LIB, "\n        ensures over { Over words.entry marks.entry stops routes result }", ""), True, FUNCTIONS, "allocator::Workspace::new does not say what it leaves in words, what it leaves in marks"),
+    ("the law of a workspace's operations that is gone", lambda: sub("crates/allocator/proofs/Unique.antt", "pub becomes_unique :", "pub becomes_twice :"), True, FUNCTIONS, "allocator::Workspace::start leaves open what it leaves in self"),
+    ("a result that is said to be itself", checked_says("number_given result ≡ number_given result"), True, FUNCTIONS, "check_tables::check leaves open its result"),
     ("a result of which nothing is said", nothing_of_the_result, True, FUNCTIONS, "check_tables::check does not say its result"),
     ("an exception that has an equation", listed("LESS", "shared::time_to_walk", "less"), True, FUNCTIONS, "take it off the list"),
     ("an exception that is said to print and does not", listed("OUTSIDE", "shared::time_to_walk", "prints"), True, FUNCTIONS, "nothing that it calls does"),
@@ -239,7 +241,7 @@ MUTATIONS = [
     ("an export with a clause of its own", lambda: sub("crates/kiosk_export/src/lib.rt", "{ result ≡ check_of tables.now }", "{ result ≡ check_of [] }"), True, FUNCTIONS, "kiosk_export::kiosk_check has not the parameters and clauses of kiosk_c::kiosk_check"),
     ("an export that is left out", lambda: sub("crates/gtfs_c/src/lib.rt", "pub fn kiosk_gtfs_read(", "pub fn kiosk_gtfs_read_both("), True, FUNCTIONS, "gtfs_export and gtfs_c do not both have kiosk_gtfs_read"),
     ("the page of functions changed by hand", lambda: sub("docs/FUNCTIONS.md", "| equation |", "| equations |"), False, FUNCTIONS, "is not what tests/functions.py writes"),
-    ("a statement changed, and the page of functions not", checked_says("result ≡ check_of []"), False, FUNCTIONS, "is not what tests/functions.py writes"),
+    ("a statement changed, and the page of functions not", checked_says("number_given result ≡ check_of []"), False, FUNCTIONS, "is not what tests/functions.py writes"),
     ("a parameter called as a clause calls what is given back", added(LIB, "pub fn more(result: u32) -> u32\n    ensures { result ≡ result }\n{\n    result\n}\n"), True, FUNCTIONS, "allocator::more calls a parameter `result`"),
     ("what two rows cite exchanged", lambda: exchange("1.4", "1.7", 2), True, PROMISES, "row 1.4 does not have"),
     ("what two rows of one file cite exchanged", lambda: exchange("3.1", "3.2", 2), True, PROMISES, "row 3.2 does not have"),
@@ -264,8 +266,8 @@ MUTATIONS = [
     ("a private name", lambda: set_cell("1.4", 2, lambda c: c + ", `kept_journey`"), True, PROMISES, "kept_journey is no theorem, contract or definition"),
     ("a name of another file", lambda: set_cell("1.3", 2, lambda c: c + "; `raptor/src/lib.rt` `kiosk_solve`"), True, PROMISES, "kiosk_solve is no theorem, contract or definition"),
     ("a file that is not there", lambda: set_cell("1.3", 2, lambda c: c + "; `raptor/src/lip.rt`"), True, PROMISES, "no file raptor/src/lip.rt"),
-    ("a copy changed by hand", lambda: sub(COPIES, "drop z after.journey ≡ drop z before.journey", "drop z after.journey ≡ before.journey"), False, PROMISES, "the copy of past_unchanged is not the text"),
-    ("a statement changed, and its copy not", lambda: sub(PROMISED, "pub past_unchanged : drop z after.journey ≡ drop z before.journey", "pub past_unchanged : z ≡ z"), False, PROMISES, "the copy of past_unchanged is not the text"),
+    ("a copy changed by hand", lambda: sub(COPIES, "drop f.length after.journey ≡ drop f.length before.journey", "drop f.length after.journey ≡ before.journey"), False, PROMISES, "the copy of past_unchanged is not the text"),
+    ("a statement changed, and its copy not", lambda: sub(PROMISED, "pub past_unchanged : drop f.length after.journey ≡ drop f.length before.journey", "pub past_unchanged : f.length ≡ f.length"), False, PROMISES, "the copy of past_unchanged is not the text"),
     ("a copy that does not say of what", lambda: sub(COPIES, block_of("past_unchanged"), block_of("past_unchanged").split("\n\n", 1)[1]), False, PROMISES, "do not say which statement they copy"),
     ("a link that leads elsewhere", lambda: set_cell("1.7", 2, lambda c: c.replace("#raptor-Promises-past_unchanged", "#raptor-Promises-any_order")), False, PROMISES, "past_unchanged does not lead to its statement"),
     ("a statement without its anchor", lambda: sub(COPIES, 'id="raptor-Promises-past_unchanged"', 'id="past_unchanged"'), False, PROMISES, "past_unchanged does not lead to its statement"),

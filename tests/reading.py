@@ -80,8 +80,9 @@ class Function:
 
     def __init__(self, path, text, found):
         self.path, self.public, self.name = path, bool(found.group(2)), found.group(3)
-        inside = re.findall(r"^impl(?:<[^>]*>)? (?:\w+ for )?(\w+)", text[: found.start()], re.M) if found.group(1) else []
-        self.owner = inside[-1] if inside else ""
+        inside = re.findall(r"^impl(?:<[^>]*>)? (?:(\w+)(?:<([^>]*)>)? for )?(\w+)", text[: found.start()], re.M) if found.group(1) else []
+        # as the folders of proofs are called: `u32FromFile` for `impl From<File> for u32`
+        self.owner = "".join([inside[-1][2], inside[-1][0], *re.findall(r"\w+", inside[-1][1])]) if inside else ""
         at = close(text, found.end() - 1, "(", ")") + 1
         self.parameters = text[found.end() : at - 1]
         self.result, self.asks, self.says = "", [], []
@@ -90,8 +91,9 @@ class Function:
             at = rest.end()
             clause = re.compile(r"(requires|ensures|decreases)\b\*?\s*(?:\w+\s*)?\{").match(text, at)
             if text.startswith("->", at):
-                end = re.compile(r"\s*(?:\b(?:requires|ensures|decreases|where)\b|\{|;)").search(text, at)
-                self.result, at = text[at + 2 : end.start()].strip(), end.start()
+                # an array's length stands behind a `;` of its own
+                end = re.compile(r"(?:\[[^\]]*\]|[^\[])*?(?=\s*(?:\b(?:requires|ensures|decreases|where)\b|\{|;))").match(text, at + 2)
+                self.result, at = end.group().strip(), end.end()
             elif clause:
                 end = close(text, clause.end() - 1, "{", "}")
                 said = " ".join(text[clause.end() : end].split())
@@ -106,8 +108,11 @@ class Function:
         self.where = "::".join([crate] + ([module] if module != "lib" else []) + ([self.owner] if self.owner else []) + [self.name])
 
     def lent(self):
-        """The parameters that may be written."""
-        return re.findall(r"(\w+)\s*:\s*&\s*(?:'\w+\s+)?mut\b", self.parameters) + (["self"] if re.match(r"\s*&\s*mut self\b", self.parameters) else [])
+        """The parameters that may be written. One that the result goes on to hold, by its lifetime and by what the contract says, is the result's."""
+        found = re.findall(r"(\w+)\s*:\s*&\s*(?:('\w+)\s+)?mut\b", self.parameters)
+        said = [clause for clause in self.says if re.search(r"\bresult\b", clause)]
+        kept = [n for n, life in found if life and re.search(rf"{life}\b", self.result) and any(re.search(rf"\b{n}\.entry\b", clause) for clause in said)]
+        return [n for n, life in found if n not in kept] + (["self"] if re.match(r"\s*&\s*mut self\b", self.parameters) else [])
 
 
 def close(text, at, opens, closes):

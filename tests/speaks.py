@@ -4,6 +4,8 @@ import functools, glob, os, re, sys
 sys.dont_write_bytecode = True  # no folder of compiled scripts in the tree
 from reading import Function, HEAD
 
+TYPE = re.compile(r"^ *(?:pub(?:\([^)]*\))? )?(?:struct|enum) (\w+)[^;{]*(?:;|\{.*?^ *\})", re.M | re.S)
+
 
 def read(path):
     with open(path, encoding="utf-8", errors="replace") as f:
@@ -24,25 +26,34 @@ class Crate:
                 f = Function(f"crates/{self.name}/{file}", self.texts[file], found)
                 module = file[len("src/") : -len(".rt")].replace("/", "::")
                 f.file, f.starts = file, found.start()
+                f.leads = re.search(r"(?:^ *(?:#\[|//)[^\n]*\n)*\Z", self.texts[file][: f.starts], re.M).start()
                 self.functions["::".join(([] if module in ("lib", "main") else [module]) + ([f.owner] if f.owner else []) + [f.name])] = f
         self.says = {}
         for file in [f for f in self.texts if f.endswith(".antt")]:
             self.says.setdefault(self.node(file), set()).update(self.named(self.texts[file]) - {self.node(file)})
-        outside = set()  # what stands in no function, as a type does, is spoken of by all
+        outside, types = set(), {}  # what stands in no function is spoken of by all; a type by whoever names it
         for file in [f for f in self.texts if f.endswith(".rt")]:
             for a, b in self.between(file):
-                outside |= self.spoken(self.texts[file], self.texts[file][a:b])
+                stretch = self.texts[file][a:b]
+                for found in TYPE.finditer(stretch):
+                    types.setdefault(found.group(1), []).append((file, found.group()))
+                outside |= self.spoken(self.texts[file], TYPE.sub("", stretch))
+        of = lambda words: {f"type:{word}" for word in re.findall(r"\w+", words) if word in types}
+        for word, texts in types.items():
+            self.says[f"type:{word}"] = set().union(*(self.spoken(self.texts[file], text) | of(text) for file, text in texts))
         for name, f in self.functions.items():
             text = self.texts[f.file]
-            self.says[f"head:{name}"], self.says[f"body:{name}"] = self.spoken(text, f.head), self.spoken(text, f.body)
+            own = {f"type:{word}" for word in types if f.owner.startswith(word)}  # what `self` is
+            self.says[f"head:{name}"], self.says[f"body:{name}"] = self.spoken(text, f.head) | of(f.head) | own, self.spoken(text, f.body) | of(f.body) | own
             called = {f"head:{other}" for other, g in self.functions.items() if other != name and re.search(rf"\b{g.name}\b", f.body)}
-            self.says.setdefault(f"fn:{name}", set()).update({f"head:{name}", f"body:{name}"} | called | outside)
+            led = self.spoken(text, text[f.leads : f.starts])  # what is said over a function is said of its own proof
+            self.says.setdefault(f"fn:{name}", set()).update({f"head:{name}", f"body:{name}"} | led | called | outside)
 
     def between(self, file):
         """The stretches of a source file that are no function."""
         at, found = 0, []
         for f in sorted((f for f in self.functions.values() if f.file == file), key=lambda f: f.starts):
-            found.append((at, f.starts))
+            found.append((at, f.leads))
             at = f.ends
         return [*found, (at, len(self.texts[file]))]
 

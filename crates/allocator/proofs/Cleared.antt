@@ -2,7 +2,7 @@
 -- Assumes nothing.
 use mathlib.Core.Path.{◌≡◌, sym, ap, ◌∙◌}
 use mathlib.Core.List.{List}
-use mathlib.Core.Option.{none}
+use Rattle.std.specs.Prelude.{None}
 use Prim.Native.Nat.{ℕ, ◌+◌, ◌-◌, ◌*◌, ◌≤◌, ◌<◌}
 use native.Mathlib.Nat.{zero-add}
 use native.Mathlib.Omega.{arith}
@@ -23,17 +23,17 @@ use Rattle.allocator.proofs.Flagged.{flags_none, spare_none}
 
 -- the rows of absent parents
 module _ (count : ℕ) where
-  blank_row : (i : ℕ) → i < count → row_of (replicate (count * 6) MAX) i ≡ encoded none
+  blank_row : (i : ℕ) → i < count → row_of (replicate (count * 6) MAX) i ≡ encoded None
   unfolding row_of encoded
   blank_row i h = sect_replicate (i * 6) 6 (count * 6) MAX (omega arith)
 
-  none_there : (i : ℕ) → i < count → parent_in (replicate (count * 6) MAX) i ≡ none
+  none_there : (i : ℕ) → i < count → parent_in (replicate (count * 6) MAX) i ≡ None
   unfolding parent_in
-  none_there i h = ap decoded (blank_row i h) ∙ decode_encode none
+  none_there i h = ap decoded (blank_row i h) ∙ decode_encode None
 
-  pub no_parents : parents count (replicate (count * 6) MAX) ≡ replicate count none
+  pub no_parents : parents count (replicate (count * 6) MAX) ≡ replicate count None
   unfolding parents
-  no_parents = tab_all (parent_in (replicate (count * 6) MAX)) count none none_there
+  no_parents = tab_all (parent_in (replicate (count * 6) MAX)) count None none_there
 
   pub rows_blank : Rows count (replicate (count * 6) MAX)
   rows_blank = record { written = λ i h. blank_row i h ∙ ap encoded (sym (none_there i h)) }
@@ -49,10 +49,10 @@ module _ (stops routes x : ℕ) (d : Direction) (ws ms ws₁ ws₂ : List ℕ) {
     pub low : (a : ℕ) → a + stops ≤ 4 * stops → sect a stops ws' ≡ replicate stops 0
     pub mid : sect (4 * stops) routes ws' ≡ replicate routes (blank d)
     pub high : sect (4 * stops + routes) (90 * stops) ws' ≡ replicate (MOST_ROUNDS * stops * 6) MAX
-    pub none : (a b : ℕ) → a + b ≤ 2 * pages stops + pages routes → sect a b ms' ≡ replicate b 0
+    pub no_marks : (a b : ℕ) → a + b ≤ 2 * pages stops + pages routes → sect a b ms' ≡ replicate b 0
 
   filled : Filled
-  filled = record { low = low; mid = mid; high = high; none = none }
+  filled = record { low = low; mid = mid; high = high; no_marks = no_marks }
     where
       n₁ : 4 * stops - 0 ≡ 4 * stops
       n₁ = omega arith
@@ -108,8 +108,8 @@ module _ (stops routes x : ℕ) (d : Direction) (ws ms ws₁ ws₂ : List ℕ) {
           (omega (arith, c₁.long, c₂.long))
           ∙ ap (λ (k : ℕ). replicate k MAX) rows
 
-      none : (a b : ℕ) → a + b ≤ 2 * pages stops + pages routes → sect a b ms' ≡ replicate b 0
-      none a b h =
+      no_marks : (a b : ℕ) → a + b ≤ 2 * pages stops + pages routes → sect a b ms' ≡ replicate b 0
+      no_marks a b h =
           let k : 2 * p + q - 0 ≡ length ms = omega arith in
           ap (sect a b) (em ∙ ap (λ (x : ℕ). overlaid 0 (replicate x 0) ms) k)
           ∙ ap (λ (x : ℕ). sect x b (overlaid 0 (replicate (length ms) 0) ms)) (sym (zero-add a))
@@ -131,9 +131,9 @@ module _ (stops routes x : ℕ) (d : Direction) (ws ms ws₁ ws₂ : List ℕ) {
         f.mid,
         f.high,
         no_parents (MOST_ROUNDS * stops),
-        f.none 0 (pages stops) (omega arith),
-        f.none (pages stops) (pages stops) (omega arith),
-        f.none (2 * pages stops) (pages routes) (omega arith),
+        f.no_marks 0 (pages stops) (omega arith),
+        f.no_marks (pages stops) (pages stops) (omega arith),
+        f.no_marks (2 * pages stops) (pages routes) (omega arith),
         no_stops,
         no-routes,
       )
@@ -145,8 +145,8 @@ module _ (stops routes x : ℕ) (d : Direction) (ws ms ws₁ ws₂ : List ℕ) {
         known =
             λ u. record {
               rows = rw f.high (rows_blank (MOST_ROUNDS * stops));
-              mark = rw (f.none 0 (pages stops) (omega arith)) (spare_none stops (pages stops));
-              held_mark = rw (f.none (pages stops) (pages stops) (omega arith)) (spare_none stops (pages stops));
-              mask = rw (f.none (2 * pages stops) (pages routes) (omega arith)) (spare_none routes (pages routes));
+              mark = rw (f.no_marks 0 (pages stops) (omega arith)) (spare_none stops (pages stops));
+              held_mark = rw (f.no_marks (pages stops) (pages stops) (omega arith)) (spare_none stops (pages stops));
+              mask = rw (f.no_marks (2 * pages stops) (pages routes) (omega arith)) (spare_none routes (pages routes));
             };
       }

@@ -1,7 +1,6 @@
 -- Laws that belong to no one function. A caller cites Visited, Links, Same, Unique and Roomy.
 pub mod Sections
 pub mod Tabulated
-pub mod Loops
 pub mod Part
 pub mod Tests
 pub mod Rowed
@@ -19,3 +18,4 @@ pub mod Links
 pub mod Same
 pub mod Unique
 pub mod Roomy
+pub mod Becoming

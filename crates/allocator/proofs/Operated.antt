@@ -31,10 +31,8 @@ use Rattle.allocator.proofs.DoesMarks.{does_mark, does_mask, does_unmark, does_u
 use Rattle.allocator.proofs.DoesParent.{does_parent}
 
 -- the direction as the caller names it
-pub activates : {stops routes : ℕ} (i p : ℕ) (d e : Direction) {ws ms ws' ms' : List ℕ} → d ≡ e
-    → Does stops routes (activated e i p) ws ms ws' ms'
-    → Does stops routes (activated d i p) ws ms ws' ms'
-activates i p d e f h = rw f h
+pub activates : (i p : ℕ) (d e : Direction) (x : Work) {y : Work} → d ≡ e → y ≡ activated e i p x → y ≡ activated d i p x
+activates i p d e x f h = rw f h
 
 -- as a contract says it
 pub does : {stops routes : ℕ} (f : Work → Work) {ws ms ws' ms' : List ℕ} → Became stops routes f ws ms ws' ms'
@@ -43,6 +41,10 @@ does f b u = record {
   holds = b.is;
   usable = record { sized = b.sized; tidy = record { known = λ x. b.kept.tidy (u.tidy.known x) } };
 }
+
+pub usable_by : {stops routes : ℕ} {f : Work → Work} {ws ms ws' ms' : List ℕ} → Became stops routes f ws ms ws' ms'
+    → Usable stops routes ws ms → Usable stops routes ws' ms'
+usable_by {f = f} b u = (does f b u).usable
 
 module _ (stops routes : ℕ) (ws ms : List ℕ) (z : Sized stops routes ws ms) where
   -- a change that is given by a value of the state is one of the state
@@ -158,5 +160,25 @@ module _ (stops routes : ℕ) (ws ms : List ℕ) (d : Direction) (i t row : ℕ)
   applies_not y = rw (won false y)
 
 -- the mask cleared after another operation
-pub unmasked_after : (routes : ℕ) {w x y : Work} → w ≡ unmasked routes x → x ≡ y → w ≡ unmasked routes y
-unmasked_after routes e f = e ∙ ap (unmasked routes) f
+pub unmasked_after : {routes routes' : ℕ} {w x y : Work} → routes' ≡ routes → w ≡ unmasked routes' x → x ≡ y → w ≡ unmasked routes y
+unmasked_after {routes} r e f = e ∙ rw r (ap (unmasked routes) f)
+
+-- ---- between two stores
+module _ {stops routes : ℕ} {ws ms ws' : List ℕ} (u : Usable stops routes ws ms) where
+  pub usable_prevs : ws' ≡ overlaid 0 (sect stops stops ws) ws → Usable stops routes ws' ms
+  usable_prevs e =
+      let long = sect_length stops stops ws (omega (arith, u.sized.words.words_length)) in
+      rw e (usable_by (does_prevs stops routes ws ms u.sized (sect stops stops ws) long) u)
+
+  pub usable_helds : ws' ≡ overlaid (3 * stops) (sect stops stops ws) ws → Usable stops routes ws' ms
+  usable_helds e =
+      let long = sect_length stops stops ws (omega (arith, u.sized.words.words_length)) in
+      rw e (usable_by (does_helds stops routes ws ms u.sized (sect stops stops ws) long) u)
+
+  pub usable_parent : (i t k : ℕ) (g : Leg) (j : ℕ) → i < stops → k < MOST_ROUNDS → j ≡ 4 * stops + routes + (k * stops + i) * 6
+      → ws' ≡ overlaid j (leg_row g) (set (set ws (stops + i) t) (2 * stops + i) t) → Usable stops routes ws' ms
+  usable_parent i t k g j h l ej e =
+      let a = usable_by (does_curr stops routes ws ms u.sized i t h) u in
+      let b = usable_by (does_best stops routes (set ws (stops + i) t) ms a.sized i t h) a in
+      let ws₁ = set (set ws (stops + i) t) (2 * stops + i) t in
+      rw (e, ej) (usable_by (does_parent stops routes ws₁ ms b.sized (k * stops + i) g (row_in stops k i l h)) b)

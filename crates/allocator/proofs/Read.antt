@@ -2,7 +2,7 @@
 -- Assumes nothing.
 use mathlib.Core.Path.{◌≡◌, refl, sym, ap, ◌∙◌}
 use mathlib.Core.List.{List}
-use mathlib.Core.Option.{none}
+use Rattle.std.specs.Prelude.{Option, None, Some}
 use Prim.Native.Nat.{ℕ, ◌+◌, ◌-◌, ◌*◌, ◌<◌}
 use native.Mathlib.Nat.{zero-add, add-zero, mul-le-mul_right, le-pred_of_lt}
 use native.Mathlib.Omega.{arith}
@@ -10,15 +10,12 @@ use borrow.Author.Tests.{ne_eqb}
 use lib.Dec.{lit<}
 use lib.ListN.{get_or, take, drop}
 use Rattle.marks.specs.Marks.{marked_stops, first_of}
-use Rattle.marks.specs.declared.Next.{Next}
 use Rattle.model.specs.declared.Leg.{Leg}
 use Rattle.model.specs.declared.LegType.{LegType}
 use Rattle.model.specs.declared.LegType.TheVariants.{Transit, Transfer, Walk}
 use Rattle.model.specs.Limits.{MOST_ROUNDS}
-use Rattle.allocator.specs.declared.Parent.{Parent}
-use Rattle.allocator.specs.declared.Parent.TheVariants.{Leg as By, Nothing as Absent}
 use Rattle.allocator.specs.Sections.{sect}
-use Rattle.allocator.specs.Rows.{row_leg, decoded, row_of, parent_in, parents, parent_of}
+use Rattle.allocator.specs.Rows.{row_leg, decoded, row_of, parent_in, parents}
 use Rattle.allocator.specs.Layout.{pages, Words, prev_of, curr_of, best_of, held_of, active_of, parents_of, mark_of, held_mark_of, mask_of}
 use Rattle.allocator.specs.Marked.{after}
 use Rattle.allocator.proofs.Sections.{sect_get, sect_sect}
@@ -51,7 +48,7 @@ pub row_in : (stops k i : ℕ) → k < MOST_ROUNDS → i < stops → k * stops +
 row_in stops k i h g = omega (arith, mul-le-mul_right stops (le-pred_of_lt h))
 
 -- ---- the next mark of a section
-module _ (stops routes : ℕ) (ms : List ℕ) (i : ℕ) {x : Next} where
+module _ (stops routes : ℕ) (ms : List ℕ) (i : ℕ) {x : Option ℕ} where
   pub next_stop : (p : ℕ) → p ≡ pages stops → x ≡ first_of (marked_stops (take (p - 0) (drop 0 ms)) i stops)
       → x ≡ first_of (after i (mark_of stops routes ms))
   unfolding mark_of sect
@@ -98,39 +95,37 @@ module _ (ws : List ℕ) (i : ℕ) where
   kind_is k e = sect_get i 6 ws 0 (lit< tt) ∙ ap (λ (x : ℕ). get_or ws x 0) (add-zero i) ∙ e
 
   pub read_ride : {g : Leg} → get_or ws i 0 ≡ 1 → g ≡ row_leg (Transit (get_or ws (i + 3) 0)) (sect i 6 ws)
-      → By g ≡ parent_of (decoded (sect i 6 ws))
-  unfolding decoded parent_of
+      → Some g ≡ decoded (sect i 6 ws)
+  unfolding decoded
   read_ride e f = rw (kind_is 1 e, sect_get i 6 ws 3 (lit< tt), f)
 
   pub read_transfer : {g : Leg} → get_or ws i 0 ≡ 2 → g ≡ row_leg Transfer (sect i 6 ws)
-      → By g ≡ parent_of (decoded (sect i 6 ws))
-  unfolding decoded parent_of
+      → Some g ≡ decoded (sect i 6 ws)
+  unfolding decoded
   read_transfer e f = rw (kind_is 2 e, f)
 
-  pub read_walk : {g : Leg} → get_or ws i 0 ≡ 3 → g ≡ row_leg Walk (sect i 6 ws) → By g ≡ parent_of (decoded (sect i 6 ws))
-  unfolding decoded parent_of
+  pub read_walk : {g : Leg} → get_or ws i 0 ≡ 3 → g ≡ row_leg Walk (sect i 6 ws) → Some g ≡ decoded (sect i 6 ws)
+  unfolding decoded
   read_walk e f = rw (kind_is 3 e, f)
 
   pub read_none : (get_or ws i 0 ≡ 1 → ⊥) → (get_or ws i 0 ≡ 2 → ⊥) → (get_or ws i 0 ≡ 3 → ⊥)
-      → Absent ≡ parent_of (decoded (sect i 6 ws))
-  unfolding decoded parent_of
+      → None ≡ decoded (sect i 6 ws)
+  unfolding decoded
   read_none a b c =
       let k = kind_is (get_or ws i 0) refl in
       rw (k, ne_eqb (get_or ws i 0) 1 a, ne_eqb (get_or ws i 0) 2 b, ne_eqb (get_or ws i 0) 3 c)
 
-pub parent_get : (stops routes k i j : ℕ) (ws : List ℕ) {x : Parent} → Words stops routes ws → k < MOST_ROUNDS → i < stops
+pub parent_get : (stops routes k i j : ℕ) (ws : List ℕ) {x : Option Leg} → Words stops routes ws → k < MOST_ROUNDS → i < stops
     → j ≡ 4 * stops + routes + (k * stops + i) * 6
-    → x ≡ parent_of (decoded (sect j 6 ws)) → x ≡ parent_of (get_or (parents_of stops routes ws) (k * stops + i) none)
+    → x ≡ decoded (sect j 6 ws) → x ≡ get_or (parents_of stops routes ws) (k * stops + i) None
 unfolding parents_of parents parent_in row_of
 parent_get stops routes k i j ws z h g e f =
     let start = 4 * stops + routes in
     let row = k * stops + i in
     let inside : row < MOST_ROUNDS * stops = row_in stops k i h g in
     f
-    ∙ ap parent_of (
-    ap (λ (x : ℕ). decoded (sect x 6 ws)) e
+    ∙ ap (λ (x : ℕ). decoded (sect x 6 ws)) e
     ∙ sym (
-    tab_at (parent_in (sect start (90 * stops) ws)) (MOST_ROUNDS * stops) row none inside
+    tab_at (parent_in (sect start (90 * stops) ws)) (MOST_ROUNDS * stops) row None inside
     ∙ ap decoded (sect_sect start (90 * stops) ws (row * 6) 6 (omega arith) (omega arith))
-    )
     )

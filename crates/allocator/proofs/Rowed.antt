@@ -2,7 +2,7 @@
 -- Assumes nothing.
 use mathlib.Core.Path.{◌≡◌, refl, ◌∙◌}
 use mathlib.Core.List.{List, [], ◌∷◌, append_assoc}
-use mathlib.Core.Option.{Option, none, some}
+use Rattle.std.specs.Prelude.{Option, None, Some}
 use Prim.Native.Nat.{ℕ, suc, ◌+◌, ◌≤◌}
 use native.Mathlib.Omega.{arith}
 use lib.ListN.{length, set, take, drop}
@@ -15,7 +15,7 @@ use Rattle.allocator.specs.Rows.{row_kind, row_trip, leg_row, encoded, row_leg, 
 
 read_back : (c : LegType) (a b d e : ℕ) →
     decoded (row_kind c ∷ a ∷ b ∷ row_trip c ∷ d ∷ e ∷ [])
-    ≡ some (record { from = a; to = b; departure = record { 0 = d }; arrival = record { 0 = e }; kind = c })
+    ≡ Some (record { from = a; to = b; departure = record { 0 = d }; arrival = record { 0 = e }; kind = c })
 unfolding decoded row_leg row_kind row_trip
 read_back (Transit v) a b d e = refl
 read_back Transfer a b d e = refl
@@ -23,13 +23,13 @@ read_back Walk a b d e = refl
 
 pub decode_encode : (p : Option Leg) → decoded (encoded p) ≡ p
 unfolding encoded leg_row decoded
-decode_encode none = refl
-decode_encode (some g) = read_back g.kind g.from g.to g.departure.0 g.arrival.0
+decode_encode None = refl
+decode_encode (Some g) = read_back g.kind g.from g.to g.departure.0 g.arrival.0
 
 pub encoded_length : (p : Option Leg) → length (encoded p) ≡ 6
 unfolding encoded leg_row
-encoded_length none = refl
-encoded_length (some g) = refl
+encoded_length None = refl
+encoded_length (Some g) = refl
 
 -- six stores in a row write a row
 pub six_stores : (ws : List ℕ) (i a b c d e f : ℕ) → i + 6 ≤ length ws

@@ -4,7 +4,7 @@
 use mathlib.Core.Path.{◌≡◌, sym, ap, ◌∙◌}
 use mathlib.Core.Bool.{true}
 use mathlib.Core.List.{List}
-use mathlib.Core.Option.{none}
+use Rattle.std.specs.Prelude.{None}
 use Prim.Native.Nat.{ℕ, zero, suc, ◌+◌, ◌*◌, ◌/◌, ◌%◌, ◌^◌, ◌≤◌, ◌<◌}
 use native.Mathlib.Nat.{pow-suc}
 use native.Mathlib.Omega.{arith}
@@ -35,7 +35,7 @@ module _ (count : ℕ) (x y : List ℕ) (lx : length x ≡ count * 6) (ly : leng
       row : (j : ℕ) → j < count → sect (j * 6) 6 x ≡ sect (j * 6) 6 y
       row j h =
           a.written j h
-          ∙ ap encoded (tab_each (parent_in y) (parent_in x) count none e j h)
+          ∙ ap encoded (tab_each (parent_in y) (parent_in x) count None e j h)
           ∙ sym (b.written j h)
 
       each : (i : ℕ) → i < length x → get_or x i 0 ≡ get_or y i 0

@@ -1,14 +1,13 @@
 -- A section of a list, read through the whole and through what is written over the list.
 -- Assumes nothing.
 use mathlib.Core.Path.{◌≡◌, sym, ap, ◌∙◌}
-use mathlib.Core.List.{List, [], ◌∷◌, ◌++◌, append_assoc}
-use Prim.Native.Nat.{ℕ, suc, ◌+◌, ◌-◌, ◌≤◌, ◌<◌}
+use mathlib.Core.List.{List, ◌++◌}
+use Prim.Native.Nat.{ℕ, ◌+◌, ◌-◌, ◌≤◌, ◌<◌}
 use native.Mathlib.Nat.{zero-add, add-zero, add_assoc}
 use native.Mathlib.Omega.{arith}
 use lib.ListN.{length, get_or, set, take, drop, replicate, length-append, length-take, length-drop, length-set, length-replicate}
 use lib.ListN.{get_or-replicate, get_or-append}
 use lib.Seq.{length-take-le, get_or-take, get_or-drop, get_or-append-add, get_or-set_other, drop-set-add, take-set-lt, ext_get_or}
-use lib.Seq.{drop-cons, append_snoc, set_at}
 use Rattle.allocator.specs.Sections.{sect, overlaid}
 
 -- ---- reading
@@ -98,24 +97,6 @@ module _ (start : ℕ) (xs ws : List ℕ) (fits : start + length xs ≤ length w
       let long = put_length in
       same_sect (start + k) k b (overlaid start xs ws) xs (omega arith) h
       (λ i l. ap (λ (x : ℕ). get_or (overlaid start xs ws) x 0) (add_assoc start k i) ∙ put_at (k + i) (omega arith))
-
-  -- one element more
-  pub put_more : (v : ℕ) → start + length xs < length ws
-      → set (overlaid start xs ws) (start + length xs) v ≡ overlaid start (xs ++ (v ∷ [])) ws
-  unfolding overlaid
-  put_more v h =
-      let e = start + length xs in
-      let rest = drop (suc e) ws in
-      let here : length (take start ws ++ xs) ≡ e = length-append (take start ws) xs ∙ ap (λ (x : ℕ). x + length xs) front in
-      let next : start + length (xs ++ (v ∷ [])) ≡ suc e = simp length-append (omega arith) in
-      rw (
-        next,
-        drop-cons ws e 0 h,
-        ← append_assoc (take start ws) xs (get_or ws e 0 ∷ rest),
-        set_at (take start ws ++ xs) (get_or ws e 0) rest v e here,
-        append_snoc,
-        append_assoc (take start ws) xs (v ∷ rest),
-      )
 
 -- ---- a list that changed only from `start` on, at most `count` elements of it
 pub record Only (start count : ℕ) (ws ws' : List ℕ) : Type 0 where

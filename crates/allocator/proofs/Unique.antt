@@ -5,11 +5,14 @@ use mathlib.Core.Path.{◌≡◌, sym, ◌∙◌}
 use mathlib.Core.List.{List}
 use Prim.Native.Nat.{ℕ}
 use lib.ListN.{length}
+use Rattle.std.specs.Borrow.{MutBor}
 use Rattle.model.specs.Work.{Work}
 use Rattle.allocator.specs.Layout.{Sized, view}
 use Rattle.allocator.specs.Tidy.{Tidy}
-use Rattle.allocator.specs.Does.{Does}
+use Rattle.allocator.specs.Does.{Does, Usable}
 use Rattle.allocator.specs.Operations.{unmarked}
+use Rattle.allocator.specs.Workspace.{state, Over, Becomes}
+use Rattle.allocator.specs.declared.Workspace.{Workspace}
 use Rattle.allocator.proofs.Became.{words_sized, marks_sized}
 use Rattle.allocator.proofs.Same.{same_words}
 
@@ -29,6 +32,13 @@ module _ {stops routes : ℕ} {ws ms : List ℕ} (z : Sized stops routes ws ms) 
   leaves_unique {x} {ws'} {ms'} {ws''} {ms''} a b =
       same_words stops routes ws' ms' ws'' ms'' (leaves_sized a) (leaves_sized b) a.tidy b.tidy (a.is ∙ sym b.is)
 
+pub becomes_does : {f : Work → Work} {w w' : Workspace} → Becomes f w w'
+    → Does w.stops w.routes f w.words.now w.marks.now w'.words.now w'.marks.now
+becomes_does {w' = w'} b = record {
+  holds = rw (b.same.stops_same, b.same.routes_same) at b.holds;
+  usable = rw (b.same.stops_same, b.same.routes_same) at w'.usable;
+}
+
 pub does_unique : {stops routes : ℕ} (f : Work → Work) {ws ms ws' ms' ws'' ms'' : List ℕ} → Does stops routes f ws ms ws' ms'
     → Does stops routes f ws ms ws'' ms''
     → (ws' ≡ ws'') × (ms' ≡ ms'')
@@ -41,3 +51,20 @@ pub clear_marks_unique : {stops routes : ℕ} {ws ms ws' ms' ws'' ms'' : List �
     → Does stops routes (unmarked stops) ws ms ws'' ms''
     → (ws' ≡ ws'') × (ms' ≡ ms'')
 clear_marks_unique {stops} a b = does_unique (unmarked stops) a b
+
+-- the same of a workspace as a value: what an operation on it may leave is one thing
+pub becomes_unique : (f : Work → Work) {w w' w'' : Workspace} → Becomes f w w' → Becomes f w w''
+    → (w'.words.now ≡ w''.words.now) × (w'.marks.now ≡ w''.marks.now)
+becomes_unique f a b = does_unique f (becomes_does a) (becomes_does b)
+
+-- and what `Workspace::new` makes of the words and marks that it is lent is one thing
+pub over_unique : {words marks : MutBor (List ℕ)} {stops routes : ℕ} {x : Work} {w w' : Workspace}
+    → state w ≡ x → Over words marks stops routes w
+    → state w' ≡ x → Over words marks stops routes w'
+    → (w.words.now ≡ w'.words.now) × (w.marks.now ≡ w'.marks.now)
+over_unique {stops = stops} {routes = routes} {x = x} {w = w} {w' = w'} e o e' o' =
+    let u : Usable stops routes w.words.now w.marks.now = rw (o.stops_same, o.routes_same) at w.usable in
+    let u' : Usable stops routes w'.words.now w'.marks.now = rw (o'.stops_same, o'.routes_same) at w'.usable in
+    let v : view stops routes w.words.now w.marks.now ≡ x = rw (o.stops_same, o.routes_same) at e in
+    let v' : view stops routes w'.words.now w'.marks.now ≡ x = rw (o'.stops_same, o'.routes_same) at e' in
+    same_words stops routes w.words.now w.marks.now w'.words.now w'.marks.now u.sized u'.sized u.tidy u'.tidy (v ∙ sym v')

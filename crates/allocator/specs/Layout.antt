@@ -2,7 +2,7 @@
 -- moments, held labels, the routes' marks, and the parents of 15 rounds. Marks: of the stops, of the stops as held,
 -- of the routes that the round scans.
 use Rattle.std.specs.Prelude.{Bool, List, ◌≡◌, ℕ, ◌+◌, ◌*◌, ◌/◌, ◌≤◌, length}
-use Rattle.std.proofs.Math.Option.{Option}
+use Rattle.std.specs.Prelude.{Option}
 use Rattle.base.specs.Tab.{tab}
 use Rattle.marks.specs.Marks.{marked}
 use Rattle.model.specs.declared.Leg.{Leg}

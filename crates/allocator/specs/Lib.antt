@@ -8,3 +8,4 @@ pub mod Parts
 pub mod Operations
 pub mod Repeated
 pub mod Marked
+pub mod Workspace

@@ -1,6 +1,6 @@
 -- What each operation does to the state, in document 01's words.
 use Rattle.std.specs.Prelude.{true, false, cond, ℕ, ◌+◌, ◌*◌, set, replicate}
-use Rattle.std.proofs.Math.Option.{none, some}
+use Rattle.std.specs.Prelude.{None, Some}
 use Rattle.model.specs.declared.Direction.{Direction}
 use Rattle.model.specs.declared.Direction.TheVariants.{Departure, Arrival}
 use Rattle.model.specs.declared.Leg.{Leg}
@@ -28,7 +28,7 @@ cleared stops routes d = record {
   held_mark = replicate stops false;
   active = replicate routes (blank d);
   mask = replicate routes false;
-  parents = replicate (MOST_ROUNDS * stops) none;
+  parents = replicate (MOST_ROUNDS * stops) None;
 }
 
 -- "the start stops get the query moment as current label and a mark. Their best moment stays absent."
@@ -72,7 +72,7 @@ holding w = with_held_mark w.labels.mark (with_held w.labels.curr w)
 -- stop i is reached at moment t by the leg g, in the round whose parents begin at `row`
 unfoldable pub stored : ℕ → ℕ → ℕ → Leg → Work → Work
 stored row i t g w =
-    with_parents (set w.parents (row + i) (some g))
+    with_parents (set w.parents (row + i) (Some g))
     (with_marks (set w.labels.mark i true)
     (with_best (set w.labels.best i t) (with_curr (set w.labels.curr i t) w)))
 
@@ -85,5 +85,5 @@ applied d row i t g w = record {
   held_mark = w.held_mark;
   active = w.active;
   mask = w.mask;
-  parents = cond (wins d i t w.labels) (set w.parents (row + i) (some g)) w.parents;
+  parents = cond (wins d i t w.labels) (set w.parents (row + i) (Some g)) w.parents;
 }

@@ -1,6 +1,6 @@
 -- The state with one of its parts replaced.
 use Rattle.std.specs.Prelude.{Bool, List, ℕ}
-use Rattle.std.proofs.Math.Option.{Option}
+use Rattle.std.specs.Prelude.{Option}
 use Rattle.model.specs.declared.Leg.{Leg}
 use Rattle.model.specs.Work.{Work}
 

@@ -1,13 +1,11 @@
 -- A parent as a row of six words: kind, from, to, trip, departure, arrival. "an .. absent parent is MAX": six times.
 use Rattle.std.specs.Prelude.{cond, List, [], ◌∷◌, ℕ, ◌*◌, eqb, get_or, replicate}
-use Rattle.std.proofs.Math.Option.{Option, none, some}
+use Rattle.std.specs.Prelude.{Option, None, Some}
 use Rattle.base.specs.Tab.{tab}
 use Rattle.model.specs.declared.Leg.{Leg}
 use Rattle.model.specs.declared.LegType.{LegType}
 use Rattle.model.specs.declared.LegType.TheVariants.{Transit, Transfer, Walk}
 use Rattle.model.specs.Moments.{MAX}
-use Rattle.allocator.specs.declared.Parent.{Parent}
-use Rattle.allocator.specs.declared.Parent.TheVariants.{Leg as By, Nothing}
 use Rattle.allocator.specs.Sections.{sect}
 
 -- the kinds have the numbers that they have in the journey bytes
@@ -28,8 +26,8 @@ leg_row g = row_kind g.kind ∷ g.from ∷ g.to ∷ row_trip g.kind ∷ g.depart
 
 unfoldable pub encoded : Option Leg → List ℕ
 unfolding leg_row
-encoded none = replicate 6 MAX
-encoded (some g) = leg_row g
+encoded None = replicate 6 MAX
+encoded (Some g) = leg_row g
 
 -- the leg of a row, by its kind
 unfoldable pub row_leg : LegType → List ℕ → Leg
@@ -44,8 +42,8 @@ row_leg c x = record {
 -- a row of no kind is an absent parent
 unfoldable pub decoded : List ℕ → Option Leg
 decoded x =
-    cond (eqb (get_or x 0 0) 1) (some (row_leg (Transit (get_or x 3 0)) x))
-    (cond (eqb (get_or x 0 0) 2) (some (row_leg Transfer x)) (cond (eqb (get_or x 0 0) 3) (some (row_leg Walk x)) none))
+    cond (eqb (get_or x 0 0) 1) (Some (row_leg (Transit (get_or x 3 0)) x))
+    (cond (eqb (get_or x 0 0) 2) (Some (row_leg Transfer x)) (cond (eqb (get_or x 0 0) 3) (Some (row_leg Walk x)) None))
 
 -- row i of a list of rows
 unfoldable pub row_of : List ℕ → ℕ → List ℕ
@@ -58,8 +56,3 @@ parent_in x i = decoded (row_of x i)
 -- the parents of the first `count` rows
 unfoldable pub parents : ℕ → List ℕ → List (Option Leg)
 parents count x = tab (parent_in x) count 0
-
--- a parent as the code answers with it
-unfoldable pub parent_of : Option Leg → Parent
-parent_of none = Nothing
-parent_of (some g) = By g

@@ -6,8 +6,7 @@
 // each in whole words of 64.
 #![tactic(auto)]
 
-ghost use Rattle.std.specs.Prelude.{Bool, ◌≡◌, ◌+◌, ◌-◌, ◌*◌, ◌<◌, ◌≤◌, length, get_or, set, replicate};
-ghost use Rattle.std.proofs.Math.Option.{none, some};
+ghost use Rattle.std.specs.Prelude.{◌≡◌, ◌+◌, ◌*◌, ◌<◌, ◌≤◌, length, get_or, None};
 ghost use Rattle.marks.specs.Marks.{first_of};
 ghost use Rattle.model.specs.Limits.{MOST_STOPS, MOST_ROUTES, MOST_ROUNDS};
 ghost use Rattle.model.specs.Choosing.{sooner};
@@ -15,26 +14,28 @@ ghost use Rattle.model.specs.Lists.{any_of};
 ghost use Rattle.model.specs.Legs.{leg_of};
 ghost use Rattle.model.specs.Moments.{better, ahead};
 ghost use Rattle.allocator.specs.Sections.{sect, overlaid};
-ghost use Rattle.allocator.specs.Rows.{row_kind, row_trip, leg_row, row_leg, decoded, parent_of};
+ghost use Rattle.allocator.specs.Rows.{row_kind, row_trip, leg_row, row_leg, decoded};
 ghost use Rattle.allocator.specs.Layout.{pages, words_room, marks_room, Words, Marks, Sized, prev_of, curr_of, best_of, held_of};
 ghost use Rattle.allocator.specs.Layout.{active_of, parents_of, mark_of, held_mark_of, mask_of};
-ghost use Rattle.allocator.specs.Does.{Usable, Does};
+ghost use Rattle.allocator.specs.Does.{Usable};
 ghost use Rattle.allocator.specs.Operations.{blank, cleared, started, swapped, unmasked, refreshed, activated, unmarked};
 ghost use Rattle.allocator.specs.Operations.{holding, stored, applied};
 ghost use Rattle.allocator.specs.Marked.{after};
 
-use marks::Next;
 use model::{Direction, Leg, LegType, Mode};
 use shared::Time;
 
 // What a route's mark holds before a departure search, and each word of an absent parent.
 const MAX: u32 = shared::MAX;
 
-// The leg by which a stop was reached, if it was.
-#[derive(Clone, Copy)]
-pub enum Parent {
-    Leg(Leg),
-    Nothing,
+// The words and the marks that a search was lent, and of how many stops and routes they hold the state. They hold nothing beside it.
+#[derive(Drop)]
+pub struct Workspace<'a> {
+    pub words: &'a mut [u32],
+    pub marks: &'a mut [u64],
+    pub stops: u32,
+    pub routes: u32,
+    ghost usable: { Usable stops routes words.now marks.now },
 }
 
 // What a proposal offers: the stop is reached at the moment by the leg.
@@ -45,57 +46,7 @@ pub struct Offer {
     pub leg: Leg,
 }
 
-// ---- words
-
-// Writes v to the words from a up to below e.
-fn fill(words: &mut [u32], a: usize, e: usize, v: u32)
-    requires a_le_e { a ≤ e }
-    requires e_in_bounds { e ≤ length words.old }
-    ensures { words.new ≡ overlaid a (replicate (e - a) v) words.old }
-{
-    let mut i = a;
-    while i < e {
-        words[i] = v;
-        i += 1;
-    }
-}
-
-// Copies `count` words from a on to b and on. The two parts are apart.
-fn copy(words: &mut [u32], a: usize, b: usize, count: usize)
-    requires count_in_bounds { a + count ≤ length words.old }
-    requires count_in_bounds_2 { b + count ≤ length words.old }
-    requires count_bound { count ≤ (a - b) + (b - a) }
-    ensures { words.new ≡ overlaid b (sect a count words.old) words.old }
-{
-    let mut i = 0;
-    while i < count {
-        words[b + i] = words[a + i];
-        i += 1;
-    }
-}
-
-// The same of marks.
-fn copy_marks(marks: &mut [u64], a: usize, b: usize, count: usize)
-    requires count_in_bounds { a + count ≤ length marks.old }
-    requires count_in_bounds_2 { b + count ≤ length marks.old }
-    requires count_bound { count ≤ (a - b) + (b - a) }
-    ensures { marks.new ≡ overlaid b (sect a count marks.old) marks.old }
-{
-    let mut i = 0;
-    while i < count {
-        marks[b + i] = marks[a + i];
-        i += 1;
-    }
-}
-
-// Takes away the marks of the words from a up to below e.
-fn clear_part(marks: &mut [u64], a: usize, e: usize)
-    requires a_le_e { a ≤ e }
-    requires e_in_bounds { e ≤ length marks.old }
-    ensures { marks.new ≡ overlaid a (replicate (e - a) 0) marks.old }
-{
-    marks::clear_all(&mut marks[a..e]);
-}
+// ---- how much room
 
 // How many words hold the marks of `count` stops or routes.
 fn pages_of(count: u32) -> usize
@@ -155,17 +106,17 @@ pub fn leg_of(d: Direction, kind: LegType, s: u32, x: Time, to: u32, y: Time) ->
     match d {
         Direction::Departure => Leg {
             from: s,
-            to: to,
+            to,
             departure: x,
             arrival: y,
-            kind: kind,
+            kind,
         },
         Direction::Arrival => Leg {
             from: to,
             to: s,
             departure: y,
             arrival: x,
-            kind: kind,
+            kind,
         },
     }
 }
@@ -190,7 +141,8 @@ fn blank_of(d: Direction) -> u32
     }
 }
 
-// ---- readers
+// ---- readers of the words or of the marks alone. They stay beside the methods of a workspace: each asks for `Words` or `Marks`, and a
+// workspace is more.
 
 // The label of stop s in the round before.
 pub fn prev_at(words: &[u32], stops: u32, routes: u32, s: u32) -> Time
@@ -242,6 +194,45 @@ pub fn active_at(words: &[u32], stops: u32, routes: u32, r: u32) -> u32
     words[i]
 }
 
+// The first marked stop at or after `from`.
+pub fn next_marked(marks: &[u64], stops: u32, routes: u32, from: usize) -> Option<usize>
+    requires { Marks stops routes marks.now }
+    ensures { result ≡ first_of (after from (mark_of stops routes marks.now)) }
+{
+    let p = pages_of(stops);
+    marks::next_mark(&marks[0..p], from, stops as usize)
+}
+
+// The first stop at or after `from` that the round's rides marked.
+pub fn next_held(marks: &[u64], stops: u32, routes: u32, from: usize) -> Option<usize>
+    requires { Marks stops routes marks.now }
+    ensures { result ≡ first_of (after from (held_mark_of stops routes marks.now)) }
+{
+    let p = pages_of(stops);
+    let e = 2 * p;
+    marks::next_mark(&marks[p..e], from, stops as usize)
+}
+
+// The first route at or after `from` that the round scans.
+pub fn next_route(marks: &[u64], stops: u32, routes: u32, from: usize) -> Option<usize>
+    requires { Marks stops routes marks.now }
+    ensures { result ≡ first_of (after from (mask_of stops routes marks.now)) }
+{
+    let a = 2 * pages_of(stops);
+    let e = a + pages_of(routes);
+    marks::next_mark(&marks[a..e], from, routes as usize)
+}
+
+// Whether a stop is marked: a search ends where none is.
+pub fn any_marked(marks: &[u64], stops: u32, routes: u32) -> bool
+    requires { Marks stops routes marks.now }
+    ensures { result ≡ any_of (mark_of stops routes marks.now) }
+{
+    next_marked(marks, stops, routes, 0).is_some()
+}
+
+// ---- a row of the parents
+
 // Where the parent of stop s in round k stands. The one product of two numbers is here.
 fn row_at(stops: u32, routes: u32, k: u32, s: u32) -> usize
     requires stops_bound { (stops ≤ MOST_STOPS) × (routes ≤ MOST_ROUTES) }
@@ -263,252 +254,31 @@ fn leg_at(words: &[u32], i: usize, kind: LegType) -> Leg
         to: words[i + 2],
         departure: Time(words[i + 4]),
         arrival: Time(words[i + 5]),
-        kind: kind,
+        kind,
     }
 }
 
 // The parent in the row that begins at word i. A word that is no kind stands for none.
-fn parent_in(words: &[u32], i: usize) -> Parent
+fn parent_in(words: &[u32], i: usize) -> Option<Leg>
     requires { i + 6 ≤ length words.now }
-    ensures { result ≡ parent_of (decoded (sect i 6 words.now)) }
+    ensures { result ≡ decoded (sect i 6 words.now) }
 {
-    let kind = words[i];
-    if kind == 1 {
-        return Parent::Leg(leg_at(words, i, LegType::Transit(words[i + 3])));
+    match words[i] {
+        1 => Some(leg_at(words, i, LegType::Transit(words[i + 3]))),
+        2 => Some(leg_at(words, i, LegType::Transfer)),
+        3 => Some(leg_at(words, i, LegType::Walk)),
+        _ => None,
     }
-    if kind == 2 {
-        return Parent::Leg(leg_at(words, i, LegType::Transfer));
-    }
-    if kind == 3 {
-        return Parent::Leg(leg_at(words, i, LegType::Walk));
-    }
-    Parent::Nothing
 }
 
-// The leg by which stop s was reached in round k.
-pub fn parent_at(words: &[u32], stops: u32, routes: u32, k: u32, s: u32) -> Parent
+// The leg by which stop s was reached in round k, if it was.
+pub fn parent_at(words: &[u32], stops: u32, routes: u32, k: u32, s: u32) -> Option<Leg>
     requires words { Words stops routes words.now }
     requires s_lt_stops { s < stops }
     requires k_bound { k < MOST_ROUNDS }
-    ensures { result ≡ parent_of (get_or (parents_of stops routes words.now) (k * stops + s) none) }
+    ensures { result ≡ get_or (parents_of stops routes words.now) (k * stops + s) None }
 {
-    let i = row_at(stops, routes, k, s);
-    parent_in(words, i)
-}
-
-// The first marked stop at or after `from`.
-pub fn next_marked(marks: &[u64], stops: u32, routes: u32, from: usize) -> Next
-    requires { Marks stops routes marks.now }
-    ensures { result ≡ first_of (after from (mark_of stops routes marks.now)) }
-{
-    let p = pages_of(stops);
-    marks::next_mark(&marks[0..p], from, stops as usize)
-}
-
-// The first stop at or after `from` that the round's rides marked.
-pub fn next_held(marks: &[u64], stops: u32, routes: u32, from: usize) -> Next
-    requires { Marks stops routes marks.now }
-    ensures { result ≡ first_of (after from (held_mark_of stops routes marks.now)) }
-{
-    let p = pages_of(stops);
-    let e = 2 * p;
-    marks::next_mark(&marks[p..e], from, stops as usize)
-}
-
-// The first route at or after `from` that the round scans.
-pub fn next_route(marks: &[u64], stops: u32, routes: u32, from: usize) -> Next
-    requires { Marks stops routes marks.now }
-    ensures { result ≡ first_of (after from (mask_of stops routes marks.now)) }
-{
-    let a = 2 * pages_of(stops);
-    let e = a + pages_of(routes);
-    marks::next_mark(&marks[a..e], from, routes as usize)
-}
-
-// Whether a stop is marked: a search ends where none is.
-pub fn any_marked(marks: &[u64], stops: u32, routes: u32) -> bool
-    requires { Marks stops routes marks.now }
-    ensures { result ≡ any_of (mark_of stops routes marks.now) }
-{
-    match next_marked(marks, stops, routes, 0) {
-        Next::At(_) => true,
-        Next::Nothing => false,
-    }
-}
-
-// ---- at the start of a query. `clear` takes any workspace of the right lengths; every other operation takes one that
-// is tidy and leaves it so, and then the state that it leaves is all that there is to say (`does_unique`).
-
-// Every search begins with a new workspace, whatever was in it: no label, no mark, no parent.
-pub fn clear(words: &mut [u32], marks: &mut [u64], stops: u32, routes: u32, d: Direction)
-    requires { Sized stops routes words.old marks.old }
-    ensures { Does stops routes (λ _. cleared stops routes d)
-        words.old marks.old words.new marks.new }
-{
-    let a = 4 * (stops as usize);
-    let b = a + routes as usize;
-    let e = b + 90 * (stops as usize);
-    let p = 2 * pages_of(stops);
-    let q = p + pages_of(routes);
-    fill(words, 0, a, 0);
-    fill(words, a, b, blank_of(d));
-    fill(words, b, e, MAX);
-    clear_part(marks, 0, q);
-}
-
-// A start stop gets the query moment as current label and a mark. Its best moment stays absent.
-pub fn start(words: &mut [u32], marks: &mut [u64], stops: u32, routes: u32, s: u32, t: Time)
-    requires usable { Usable stops routes words.old marks.old }
-    requires s_lt_stops { s < stops }
-    ensures { Does stops routes (started s t.0)
-        words.old marks.old words.new marks.new }
-{
-    let at = stops as usize + s as usize;
-    words[at] = t.0;
-    marks::set_mark(marks, s as usize);
-}
-
-// ---- at the start of a round
-
-// The current labels become the previous ones, and no stop has a current label.
-pub fn swap_labels(words: &mut [u32], marks: &mut [u64], stops: u32, routes: u32)
-    requires { Usable stops routes words.old marks.old }
-    ensures { Does stops routes (swapped stops)
-        words.old marks.old words.new marks.new }
-{
-    let a = stops as usize;
-    let e = 2 * a;
-    copy(words, a, 0, a);
-    fill(words, a, e, 0);
-}
-
-// Fills the routes' marks again, where the mode asks for it before every round.
-pub fn refill(
-    words: &mut [u32],
-    marks: &mut [u64],
-    stops: u32,
-    routes: u32,
-    mode: Mode,
-    d: Direction,
-)
-    requires { Usable stops routes words.old marks.old }
-    ensures { Does stops routes (refreshed mode routes d)
-        words.old marks.old words.new marks.new }
-{
-    let a = 4 * (stops as usize);
-    let e = a + routes as usize;
-    match mode {
-        Mode::Source => {}
-        Mode::Rescan => fill(words, a, e, blank_of(d)),
-    }
-}
-
-// No route is to be scanned.
-pub fn clear_mask(words: &mut [u32], marks: &mut [u64], stops: u32, routes: u32)
-    requires { Usable stops routes words.old marks.old }
-    ensures { Does stops routes (unmasked routes)
-        words.old marks.old words.new marks.new }
-{
-    let a = 2 * pages_of(stops);
-    let e = a + pages_of(routes);
-    clear_part(marks, a, e);
-}
-
-// Before routes are chosen.
-pub fn begin_choosing(
-    words: &mut [u32],
-    marks: &mut [u64],
-    stops: u32,
-    routes: u32,
-    mode: Mode,
-    d: Direction,
-)
-    requires { Usable stops routes words.old marks.old }
-    ensures { Does stops routes (λ w. unmasked routes (refreshed mode routes d w))
-        words.old marks.old words.new marks.new }
-{
-    refill(words, marks, stops, routes, mode, d);
-    clear_mask(words, marks, stops, routes);
-}
-
-// A route's mark moves to position p, and the route is scanned in this round, where p is sooner. The caller names the direction, so that
-// the compiler makes code for each of the two.
-fn activate_by(
-    words: &mut [u32],
-    marks: &mut [u64],
-    stops: u32,
-    routes: u32,
-    d: Direction,
-    r: u32,
-    p: u32,
-)
-    requires usable { Usable stops routes words.old marks.old }
-    requires r_lt_routes { r < routes }
-    ensures { Does stops routes (activated d r p)
-        words.old marks.old words.new marks.new }
-{
-    let mark = active_at(words, stops, routes, r);
-    if is_sooner(d, p, mark) {
-        let i = 4 * (stops as usize) + r as usize;
-        let q = 2 * pages_of(stops);
-        words[i] = p;
-        marks::set_mark(marks, 64 * q + r as usize);
-    }
-}
-
-// A marked stop stands at position p of route r: the route's mark moves there, and the route is
-// scanned in this round, where p is sooner.
-pub fn activate(
-    words: &mut [u32],
-    marks: &mut [u64],
-    stops: u32,
-    routes: u32,
-    d: Direction,
-    r: u32,
-    p: u32,
-)
-    requires usable { Usable stops routes words.old marks.old }
-    requires r_lt_routes { r < routes }
-    ensures { Does stops routes (activated d r p)
-        words.old marks.old words.new marks.new }
-{
-    match d {
-        Direction::Departure => activate_by(
-            words,
-            marks,
-            stops,
-            routes,
-            Direction::Departure,
-            r,
-            p,
-        ),
-        Direction::Arrival => activate_by(words, marks, stops, routes, Direction::Arrival, r, p),
-    }
-}
-
-// No stop is marked.
-pub fn clear_marks(words: &mut [u32], marks: &mut [u64], stops: u32, routes: u32)
-    requires { Usable stops routes words.old marks.old }
-    ensures { Does stops routes (unmarked stops)
-        words.old marks.old words.new marks.new }
-{
-    let e = pages_of(stops);
-    clear_part(marks, 0, e);
-}
-
-// ---- within a round
-
-// Holds the current labels and the marks as the rides left them: footpaths are made from these.
-pub fn hold(words: &mut [u32], marks: &mut [u64], stops: u32, routes: u32)
-    requires { Usable stops routes words.old marks.old }
-    ensures { Does stops routes holding
-        words.old marks.old words.new marks.new }
-{
-    let a = stops as usize;
-    let b = 3 * a;
-    let p = pages_of(stops);
-    copy(words, a, b, a);
-    copy_marks(marks, 0, p, p);
+    parent_in(words, row_at(stops, routes, k, s))
 }
 
 // The first word of a row.
@@ -547,44 +317,230 @@ fn put_leg(words: &mut [u32], i: usize, g: Leg)
     words[i + 5] = g.arrival.0;
 }
 
-// The stop is reached so in round k.
-fn store(words: &mut [u32], marks: &mut [u64], stops: u32, routes: u32, k: u32, offer: Offer)
-    requires usable { Usable stops routes words.old marks.old }
-    requires stop_lt_stops { offer.stop < stops }
-    requires k_bound { k < MOST_ROUNDS }
-    ensures { Does stops routes (stored (k * stops) offer.stop offer.moment.0 offer.leg)
-        words.old marks.old words.new marks.new }
-{
-    let s = offer.stop;
-    let t = offer.moment;
-    let g = offer.leg;
-    let a = stops as usize + s as usize;
-    let b = 2 * (stops as usize) + s as usize;
-    let i = row_at(stops, routes, k, s);
-    words[a] = t.0;
-    words[b] = t.0;
-    put_leg(words, i, g);
-    marks::set_mark(marks, s as usize);
-}
+// ---- the operations. Each leaves a workspace that holds nothing beside the state, so the state that it leaves is all that there is to
+// say (`does_unique`).
+impl<'a> Workspace<'a> {
+    ghost use Rattle.allocator.specs.Workspace.{state, prev, curr, best, held_labels, active, mark, held_mark, mask, Becomes, Over};
 
-// The same where the moment is strictly better than the best one of the stop: a tie keeps the parent.
-pub fn apply(
-    words: &mut [u32],
-    marks: &mut [u64],
-    stops: u32,
-    routes: u32,
-    d: Direction,
-    k: u32,
-    offer: Offer,
-)
-    requires usable { Usable stops routes words.old marks.old }
-    requires stop_lt_stops { offer.stop < stops }
-    requires k_bound { k < MOST_ROUNDS }
-    ensures { Does stops routes (applied d (k * stops) offer.stop offer.moment.0 offer.leg)
-        words.old marks.old words.new marks.new }
-{
-    let best = best_at(words, stops, routes, offer.stop);
-    if is_better(d, offer.moment, best) {
-        store(words, marks, stops, routes, k, offer);
+    // Every search begins with a new workspace, whatever was in the words and the marks: no label, no mark, no parent.
+    pub fn new(
+        words: &'a mut [u32],
+        marks: &'a mut [u64],
+        stops: u32,
+        routes: u32,
+        d: Direction,
+    ) -> Workspace<'a>
+        requires { Sized stops routes words.old marks.old }
+        ensures holds { state result ≡ cleared stops routes d }
+        ensures over { Over words.entry marks.entry stops routes result }
+    {
+        let a = 4 * (stops as usize);
+        let b = a + routes as usize;
+        let e = b + 90 * (stops as usize);
+        let p = 2 * pages_of(stops);
+        let q = p + pages_of(routes);
+        words[0..a].fill(0);
+        words[a..b].fill(blank_of(d));
+        words[b..e].fill(MAX);
+        marks[0..q].fill(0);
+        Workspace {
+            words,
+            marks,
+            stops,
+            routes,
+        }
+    }
+
+    // The label of stop s in the round before.
+    pub fn prev(&self, s: u32) -> Time
+        requires { s < self.now.stops }
+        ensures { result.0 ≡ get_or (prev self.now) s 0 }
+    {
+        prev_at(self.words, self.stops, self.routes, s)
+    }
+
+    // The label of stop s in this round.
+    pub fn curr(&self, s: u32) -> Time
+        requires { s < self.now.stops }
+        ensures { result.0 ≡ get_or (curr self.now) s 0 }
+    {
+        curr_at(self.words, self.stops, self.routes, s)
+    }
+
+    // The best moment of stop s.
+    pub fn best(&self, s: u32) -> Time
+        requires { s < self.now.stops }
+        ensures { result.0 ≡ get_or (best self.now) s 0 }
+    {
+        best_at(self.words, self.stops, self.routes, s)
+    }
+
+    // The label of stop s as this round's rides left it.
+    pub fn held(&self, s: u32) -> Time
+        requires { s < self.now.stops }
+        ensures { result.0 ≡ get_or (held_labels self.now) s 0 }
+    {
+        held_at(self.words, self.stops, self.routes, s)
+    }
+
+    // The mark of route r: from which position the route is scanned.
+    pub fn active(&self, r: u32) -> u32
+        requires { r < self.now.routes }
+        ensures { result ≡ get_or (active self.now) r 0 }
+    {
+        active_at(self.words, self.stops, self.routes, r)
+    }
+
+    // The first marked stop at or after `from`.
+    pub fn next_marked(&self, from: usize) -> Option<usize>
+        ensures { result ≡ first_of (after from (mark self.now)) }
+    {
+        next_marked(self.marks, self.stops, self.routes, from)
+    }
+
+    // The first stop at or after `from` that the round's rides marked.
+    pub fn next_held(&self, from: usize) -> Option<usize>
+        ensures { result ≡ first_of (after from (held_mark self.now)) }
+    {
+        next_held(self.marks, self.stops, self.routes, from)
+    }
+
+    // The first route at or after `from` that the round scans.
+    pub fn next_route(&self, from: usize) -> Option<usize>
+        ensures { result ≡ first_of (after from (mask self.now)) }
+    {
+        next_route(self.marks, self.stops, self.routes, from)
+    }
+
+    // Whether a stop is marked: a search ends where none is.
+    pub fn any_marked(&self) -> bool
+        ensures { result ≡ any_of (mark self.now) }
+    {
+        any_marked(self.marks, self.stops, self.routes)
+    }
+
+    // A start stop gets the query moment as current label and a mark. Its best moment stays absent.
+    pub fn start(&mut self, s: u32, t: Time)
+        requires { s < self.old.stops }
+        ensures { Becomes (started s t.0) self.old self.new }
+    {
+        let at = self.stops as usize + s as usize;
+        self.words[at] = t.0;
+        marks::set_mark(self.marks, s as usize);
+    }
+
+    // The current labels become the previous ones, and no stop has a current label.
+    pub fn swap_labels(&mut self)
+        ensures { Becomes (swapped self.old.stops) self.old self.new }
+    {
+        let a = self.stops as usize;
+        let e = 2 * a;
+        self.words.copy_within(a..e, 0);
+        self.words[a..e].fill(0);
+    }
+
+    // Fills the routes' marks again, where the mode asks for it before every round.
+    pub fn refill(&mut self, mode: Mode, d: Direction)
+        ensures { Becomes (refreshed mode self.old.routes d) self.old self.new }
+    {
+        let a = 4 * self.stops as usize;
+        let e = a + self.routes as usize;
+        match mode {
+            Mode::Source => {}
+            Mode::Rescan => self.words[a..e].fill(blank_of(d)),
+        }
+    }
+
+    // No route is to be scanned.
+    pub fn clear_mask(&mut self)
+        ensures { Becomes (unmasked self.old.routes) self.old self.new }
+    {
+        let a = 2 * pages_of(self.stops);
+        let e = a + pages_of(self.routes);
+        self.marks[a..e].fill(0);
+    }
+
+    // Before routes are chosen.
+    pub fn begin_choosing(&mut self, mode: Mode, d: Direction)
+        ensures { Becomes (λ w. unmasked self.old.routes (refreshed mode self.old.routes d w)) self.old self.new }
+    {
+        self.refill(mode, d);
+        self.clear_mask();
+    }
+
+    // A route's mark moves to position p, and the route is scanned in this round, where p is sooner. The caller names the direction, so
+    // that the compiler makes code for each of the two.
+    fn activate_by(&mut self, d: Direction, r: u32, p: u32)
+        requires { r < self.old.routes }
+        ensures { Becomes (activated d r p) self.old self.new }
+    {
+        let mark = self.active(r);
+        if is_sooner(d, p, mark) {
+            let i = 4 * self.stops as usize + r as usize;
+            let q = 2 * pages_of(self.stops);
+            self.words[i] = p;
+            marks::set_mark(self.marks, 64 * q + r as usize);
+        }
+    }
+
+    // A marked stop stands at position p of route r: the route's mark moves there, and the route is
+    // scanned in this round, where p is sooner.
+    pub fn activate(&mut self, d: Direction, r: u32, p: u32)
+        requires { r < self.old.routes }
+        ensures { Becomes (activated d r p) self.old self.new }
+    {
+        match d {
+            Direction::Departure => self.activate_by(Direction::Departure, r, p),
+            Direction::Arrival => self.activate_by(Direction::Arrival, r, p),
+        }
+    }
+
+    // No stop is marked.
+    pub fn clear_marks(&mut self)
+        ensures { Becomes (unmarked self.old.stops) self.old self.new }
+    {
+        let e = pages_of(self.stops);
+        self.marks[0..e].fill(0);
+    }
+
+    // Holds the current labels and the marks as the rides left them: footpaths are made from these.
+    pub fn hold(&mut self)
+        ensures { Becomes holding self.old self.new }
+    {
+        let a = self.stops as usize;
+        let b = 3 * a;
+        let p = pages_of(self.stops);
+        self.words.copy_within(a..2 * a, b);
+        self.marks.copy_within(0..p, p);
+    }
+
+    // The stop is reached so in round k.
+    fn store(&mut self, k: u32, offer: Offer)
+        requires stop_lt_stops { offer.stop < self.old.stops }
+        requires k_bound { k < MOST_ROUNDS }
+        ensures { Becomes (stored (k * self.old.stops) offer.stop offer.moment.0 offer.leg) self.old self.new }
+    {
+        let s = offer.stop;
+        let t = offer.moment;
+        let g = offer.leg;
+        let a = self.stops as usize + s as usize;
+        let b = 2 * self.stops as usize + s as usize;
+        let i = row_at(self.stops, self.routes, k, s);
+        self.words[a] = t.0;
+        self.words[b] = t.0;
+        put_leg(self.words, i, g);
+        marks::set_mark(self.marks, s as usize);
+    }
+
+    // The same where the moment is strictly better than the best one of the stop: a tie keeps the parent.
+    pub fn apply(&mut self, d: Direction, k: u32, offer: Offer)
+        requires stop_lt_stops { offer.stop < self.old.stops }
+        requires k_bound { k < MOST_ROUNDS }
+        ensures { Becomes (applied d (k * self.old.stops) offer.stop offer.moment.0 offer.leg) self.old self.new }
+    {
+        let best = self.best(offer.stop);
+        if is_better(d, offer.moment, best) {
+            self.store(k, offer);
+        }
     }
 }

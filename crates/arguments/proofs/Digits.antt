@@ -1,33 +1,23 @@
 -- A number digit by digit.
 use Prim.Native.Nat.{ℕ, zero, suc, ◌+◌, ◌*◌, ◌-◌, ◌≤◌, ◌<◌}
 use mathlib.Core.Path.{◌≡◌, sym, ap, ◌∙◌}
-use mathlib.Core.Bool.{Bool, true, false}
+use mathlib.Core.Bool.{Bool}
 use mathlib.Core.List.{List}
 use native.Mathlib.Omega.{arith}
 use native.Mathlib.Nat.{zero-add, suc-add}
-use lib.ListN.{length, get_or}
-use lib.Dec.{leb}
-use borrow.Author.Tests.{lt-ltb, le-ltb, le-leb, lt-leb}
+use lib.ListN.{get_or}
+use borrow.Author.Tests.{lt-ltb, le-ltb}
+use Rattle.std.specs.Prelude.{Ok, Err}
 use Rattle.base.specs.All.{all}
-use Rattle.arguments.specs.Digits.{is_digit, digit_at, tens, fitting, number_in}
-use Rattle.arguments.specs.declared.bytes.Number.{Number}
-use Rattle.arguments.specs.declared.bytes.Number.TheVariants.{Value, Nothing, TooLarge}
+use Rattle.arguments.specs.Digits.{is_digit, digit_at, tens, fitting}
+use Rattle.arguments.specs.declared.bytes.NoNumber.TheVariants.{TooLarge}
 
 -- what a check came to, the other way round
 pub all_is : (f : ℕ → Bool) (a b : ℕ) {v : Bool} → all f a b ≡ v → v ≡ all f a b
 all_is f a b e = sym e
 
-pub digit_high : (b : ℕ) → 48 ≤ b → leb b 57 ≡ is_digit b
-unfolding is_digit
-digit_high b h = rw (le-leb 48 b h)
-
-pub digit_low : (b : ℕ) → b < 48 → false ≡ is_digit b
-unfolding is_digit
-digit_low b h = rw (lt-leb 48 b h)
-
 -- the test of a byte is the test at its place
 pub at_digit : (arg : List ℕ) (i : ℕ) {r v : Bool} → r ≡ is_digit (get_or arg i 0) → r ≡ v → digit_at arg i ≡ v
-unfolding digit_at
 at_digit arg i e f = sym e ∙ f
 
 -- more digits make no smaller number
@@ -36,12 +26,10 @@ unfolding tens
 grows arg from k zero = rw zero-add (omega arith)
 grows arg from k (suc n) = rw suc-add (omega (arith, grows arg from k n))
 
-pub fits : {n : ℕ} → n < 4_294_967_296 → fitting n ≡ Value n
-unfolding fitting
+pub fits : {n : ℕ} → n < 4_294_967_296 → fitting n ≡ Ok n
 fits {n} h = rw (lt-ltb n 4_294_967_296 h)
 
-too_large : (n : ℕ) → 4_294_967_296 ≤ n → fitting n ≡ TooLarge
-unfolding fitting
+too_large : (n : ℕ) → 4_294_967_296 ≤ n → fitting n ≡ Err TooLarge
 too_large n h = rw (le-ltb n 4_294_967_296 h)
 
 -- a number that is read up to place i
@@ -70,34 +58,15 @@ module _ (arg : List ℕ) (from to : ℕ) where
   read_on value i r h e g = record { low = omega arith; high = omega arith; value_is = next_is value i r e; small = g }
 
   pub read_over : (value i : ℕ) {next : ℕ} → Read arg from to value i → i < to → next ≡ value * 10 + (get_or arg i 0 - 48) → 4_294_967_295 < next
-      → TooLarge ≡ fitting (tens arg from (to - from))
+      → Err TooLarge ≡ fitting (tens arg from (to - from))
   read_over value i r h e g =
       let m = to - (i + 1) in
       let k : m + (i + 1 - from) ≡ to - from = omega arith in
       let big : tens arg from (i + 1 - from) ≤ tens arg from (to - from) = rw k at (grows arg from (i + 1 - from) m) in
       sym (too_large (tens arg from (to - from)) (omega (arith, next_is value i r e)))
 
-  pub read_end : (value i : ℕ) → Read arg from to value i → to ≤ i → Value value ≡ fitting (tens arg from (to - from))
+  pub read_end : (value i : ℕ) → Read arg from to value i → to ≤ i → Ok value ≡ fitting (tens arg from (to - from))
   read_end value i r h =
       let e : i ≡ to = omega arith in
       let v : value ≡ tens arg from (to - from) = rw e at r.value_is in
       sym (fits (omega arith)) ∙ ap fitting v
-
--- each way out of `number_in`
-module _ (arg : List ℕ) (from to : ℕ) where
-  pub number_none : to ≤ from → Nothing ≡ number_in arg from to
-  unfolding number_in
-  number_none h = rw (le-ltb from to h)
-
-  pub number_past : from < to → length arg < to → Nothing ≡ number_in arg from to
-  unfolding number_in
-  number_past h g = rw (lt-ltb from to h, lt-leb to (length arg) g)
-
-  pub number_no_digit : {b : Bool} → from < to → to ≤ length arg → b ≡ all (digit_at arg) from to → b ≡ false → Nothing ≡ number_in arg from to
-  unfolding number_in
-  number_no_digit h g e f = rw (lt-ltb from to h, le-leb to (length arg) g, ← e, f)
-
-  pub number_value : {b : Bool} {r : Number} → from < to → to ≤ length arg → b ≡ all (digit_at arg) from to → b ≡ true
-      → r ≡ fitting (tens arg from (to - from)) → r ≡ number_in arg from to
-  unfolding number_in
-  number_value h g e f v = v ∙ rw (lt-ltb from to h, le-leb to (length arg) g, ← e, f)

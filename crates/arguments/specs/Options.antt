@@ -1,100 +1,88 @@
 -- Which options were said: "walks:yes|no", "mode:source|rescan", "tables:FILE", "midnight:SECONDS", "bytes", each at most once.
-use Rattle.std.specs.Prelude.{ℕ, true, false, cond, List, [], ◌∷◌, length, eqb, ltb}
-use Rattle.arguments.specs.declared.bytes.Number.{Number}
-use Rattle.arguments.specs.declared.bytes.Number.TheVariants.{Value, Nothing, TooLarge}
-use Rattle.arguments.specs.declared.options.Chosen.{Chosen}
-use Rattle.arguments.specs.declared.options.Chosen.TheVariants.{Options as chosen, Twice, Bad}
+use Rattle.std.specs.Prelude.{ℕ, Bool, true, false, cond, List, [], ◌∷◌, length, ltb, Some, None, is_some, Result, Ok, Err}
+use Rattle.arguments.specs.declared.options.NoOption.{NoOption}
+use Rattle.arguments.specs.declared.options.NoOption.TheVariants.{Twice, BadWalks, BadMode, BadTables, BadMidnight, Unknown}
 use Rattle.arguments.specs.declared.options.Options.{Options}
 use Rattle.arguments.specs.declared.options.Said.{Said}
-use Rattle.arguments.specs.declared.options.Said.TheVariants.{Walks, Mode, Tables, Midnight, Bytes, BadWalks, BadMode, BadTables, BadMidnight, Unknown}
-use Rattle.arguments.specs.Digits.{number_in}
+use Rattle.arguments.specs.declared.options.Said.TheVariants.{Walks, Rescan, Tables, Midnight, Bytes}
+use Rattle.arguments.specs.Digits.{Number, number_in}
 use Rattle.arguments.specs.Word.{begins_with, same}
 
 -- the words, in ASCII: `walks:`, `mode:`, `tables:`, `midnight:`, `bytes`, and `yes`, `no`, `source`, `rescan` behind the first two
-unfoldable pub walks_word : List ℕ
+abbrev pub walks_word : List ℕ
 walks_word = 119 ∷ 97 ∷ 108 ∷ 107 ∷ 115 ∷ 58 ∷ []
 
-unfoldable pub walks_yes : List ℕ
+abbrev pub walks_yes : List ℕ
 walks_yes = 119 ∷ 97 ∷ 108 ∷ 107 ∷ 115 ∷ 58 ∷ 121 ∷ 101 ∷ 115 ∷ []
 
-unfoldable pub walks_no : List ℕ
+abbrev pub walks_no : List ℕ
 walks_no = 119 ∷ 97 ∷ 108 ∷ 107 ∷ 115 ∷ 58 ∷ 110 ∷ 111 ∷ []
 
-unfoldable pub mode_word : List ℕ
+abbrev pub mode_word : List ℕ
 mode_word = 109 ∷ 111 ∷ 100 ∷ 101 ∷ 58 ∷ []
 
-unfoldable pub mode_source : List ℕ
+abbrev pub mode_source : List ℕ
 mode_source = 109 ∷ 111 ∷ 100 ∷ 101 ∷ 58 ∷ 115 ∷ 111 ∷ 117 ∷ 114 ∷ 99 ∷ 101 ∷ []
 
-unfoldable pub mode_rescan : List ℕ
+abbrev pub mode_rescan : List ℕ
 mode_rescan = 109 ∷ 111 ∷ 100 ∷ 101 ∷ 58 ∷ 114 ∷ 101 ∷ 115 ∷ 99 ∷ 97 ∷ 110 ∷ []
 
-unfoldable pub tables_word : List ℕ
+abbrev pub tables_word : List ℕ
 tables_word = 116 ∷ 97 ∷ 98 ∷ 108 ∷ 101 ∷ 115 ∷ 58 ∷ []
 
-unfoldable pub midnight_word : List ℕ
+abbrev pub midnight_word : List ℕ
 midnight_word = 109 ∷ 105 ∷ 100 ∷ 110 ∷ 105 ∷ 103 ∷ 104 ∷ 116 ∷ 58 ∷ []
 
-unfoldable pub bytes_word : List ℕ
+abbrev pub bytes_word : List ℕ
 bytes_word = 98 ∷ 121 ∷ 116 ∷ 101 ∷ 115 ∷ []
 
 -- nothing is said
-unfoldable pub unsaid : Options
-unsaid = record { walks = 0; mode = 0; file = 0; moved = false; midnight = 0; bytes = false }
+abbrev pub unsaid : Options
+unsaid = record { walks = None; rescan = None; file = None; midnight = None; bytes = false }
 
-unfoldable pub walks_said : List ℕ → Said
-walks_said arg = cond (same arg walks_yes) (Walks 1) (cond (same arg walks_no) (Walks 2) BadWalks)
+-- what an argument says, or why it is no option
+abbrev pub Saying : Type 0
+Saying = Result Said NoOption
 
-unfoldable pub mode_said : List ℕ → Said
-mode_said arg = cond (same arg mode_source) (Mode 1) (cond (same arg mode_rescan) (Mode 2) BadMode)
+abbrev pub walks_said : List ℕ → Saying
+walks_said arg = cond (same arg walks_yes) (Ok (Walks true)) (cond (same arg walks_no) (Ok (Walks false)) (Err BadWalks))
+
+abbrev pub mode_said : List ℕ → Saying
+mode_said arg = cond (same arg mode_source) (Ok (Rescan false)) (cond (same arg mode_rescan) (Ok (Rescan true)) (Err BadMode))
 
 -- a file has a name
-unfoldable pub tables_said : List ℕ → Said
-tables_said arg = cond (ltb 7 (length arg)) Tables BadTables
+abbrev pub tables_said : List ℕ → Saying
+tables_said arg = cond (ltb 7 (length arg)) (Ok Tables) (Err BadTables)
 
-unfoldable pub midnight_said : Number → Said
-midnight_said (Value t) = Midnight t
-midnight_said Nothing = BadMidnight
-midnight_said TooLarge = BadMidnight
+abbrev pub midnight_said : Number → Saying
+midnight_said (Ok t) = Ok (Midnight t)
+midnight_said (Err e) = Err BadMidnight
 
 -- the option that an argument is, by the word that it begins with
-unfoldable pub said_of : List ℕ → Said
+abbrev pub said_of : List ℕ → Saying
 said_of arg =
     cond (begins_with arg walks_word) (walks_said arg)
     (cond (begins_with arg mode_word) (mode_said arg)
     (cond (begins_with arg tables_word) (tables_said arg)
     (cond (begins_with arg midnight_word) (midnight_said (number_in arg 9 (length arg)))
-    (cond (same arg bytes_word) Bytes Unknown))))
-
-unfoldable pub with_walks : Options → ℕ → Chosen
-with_walks o v = cond (eqb o.walks 0)
-    (chosen (record { walks = v; mode = o.mode; file = o.file; moved = o.moved; midnight = o.midnight; bytes = o.bytes })) Twice
-
-unfoldable pub with_mode : Options → ℕ → Chosen
-with_mode o v = cond (eqb o.mode 0)
-    (chosen (record { walks = o.walks; mode = v; file = o.file; moved = o.moved; midnight = o.midnight; bytes = o.bytes })) Twice
-
-unfoldable pub with_tables : Options → ℕ → Chosen
-with_tables o i = cond (eqb o.file 0)
-    (chosen (record { walks = o.walks; mode = o.mode; file = i; moved = o.moved; midnight = o.midnight; bytes = o.bytes })) Twice
-
-unfoldable pub with_midnight : Options → ℕ → Chosen
-with_midnight o t = cond o.moved Twice
-    (chosen (record { walks = o.walks; mode = o.mode; file = o.file; moved = true; midnight = t; bytes = o.bytes }))
-
-unfoldable pub with_bytes_said : Options → Chosen
-with_bytes_said o = cond o.bytes Twice
-    (chosen (record { walks = o.walks; mode = o.mode; file = o.file; moved = o.moved; midnight = o.midnight; bytes = true }))
+    (cond (same arg bytes_word) (Ok Bytes) (Err Unknown)))))
 
 -- the options with one more, which argument i said
-unfoldable pub with_said : Options → Said → ℕ → Chosen
-with_said o (Walks v) i = with_walks o v
-with_said o (Mode v) i = with_mode o v
-with_said o Tables i = with_tables o i
-with_said o (Midnight t) i = with_midnight o t
-with_said o Bytes i = with_bytes_said o
-with_said o BadWalks i = Bad
-with_said o BadMode i = Bad
-with_said o BadTables i = Bad
-with_said o BadMidnight i = Bad
-with_said o Unknown i = Bad
+abbrev pub more_of : Options → Said → ℕ → Options
+more_of o (Walks v) i = record o { walks = Some v }
+more_of o (Rescan v) i = record o { rescan = Some v }
+more_of o Tables i = record o { file = Some i }
+more_of o (Midnight t) i = record o { midnight = Some t }
+more_of o Bytes i = record o { bytes = true }
+
+-- whether that option is said already
+abbrev pub is_said : Options → Said → Bool
+is_said o (Walks v) = is_some o.walks
+is_said o (Rescan v) = is_some o.rescan
+is_said o Tables = is_some o.file
+is_said o (Midnight t) = is_some o.midnight
+is_said o Bytes = o.bytes
+
+-- the options with one more, which argument i said: "each at most once"
+abbrev pub with_said : Options → Said → ℕ → Result Options NoOption
+with_said o said i = cond (is_said o said) (Err (Twice said)) (Ok (more_of o said i))

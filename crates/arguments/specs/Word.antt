@@ -12,5 +12,5 @@ unfoldable pub same : List ℕ → List ℕ → Bool
 same arg word = eqb (length arg) (length word) && begins_with arg word
 
 -- how long the word is where the argument begins with it, else 0
-unfoldable pub after_of : List ℕ → List ℕ → ℕ
+abbrev pub after_of : List ℕ → List ℕ → ℕ
 after_of arg word = cond (begins_with arg word) (length word) 0

@@ -1,33 +1,27 @@
-// The bytes of an argument: what word it is or begins with, and the number that stands in it.
+// The bytes of an argument: the number that stands in it, and whether it is or begins with a word.
 ghost use Rattle.std.specs.Prelude.{◌≡◌, ◌+◌, ◌*◌, ◌-◌, ◌≤◌, length};
 ghost use Rattle.base.specs.All.{all};
 ghost use Rattle.arguments.specs.Digits.{is_digit, digit_at, tens, fitting, number_in};
 ghost use Rattle.arguments.specs.Word.{begins_with, same, after_of};
 
-#[derive(Clone, Copy)]
-pub enum Number {
-    Value(u32),
-    Nothing,
+// Why bytes are no number of 32 bits.
+#[derive(Clone, Copy, Debug, PartialEq, Eq)]
+pub enum NoNumber {
+    NoDigits,
     TooLarge,
 }
 
 pub fn is_digit(b: u8) -> bool
     ensures { result ≡ is_digit b }
 {
-    if 48 <= b {
-        return b <= 57;
-    }
-    false
+    matches!(b, b'0'..=b'9')
 }
 
 // The number that digits are with one more behind them.
 pub fn longer(value: u32, b: u8) -> u64
     ensures { result ≡ value * 10 + (b - 48) }
 {
-    if 48 <= b {
-        return value as u64 * 10 + (b as u64 - 48);
-    }
-    value as u64 * 10
+    u64::from(value) * 10 + u64::from(b.saturating_sub(b'0'))
 }
 
 // Whether each byte from `from` to `to` is a digit.
@@ -35,11 +29,8 @@ fn are_digits(arg: &[u8], from: usize, to: usize) -> bool
     requires { to ≤ length arg.now }
     ensures { result ≡ all (digit_at arg.now) from to }
 {
-    let mut i = from;
-    while i < to {
-        if is_digit(arg[i]) {
-            i += 1;
-        } else {
+    for i in from..to {
+        if !is_digit(arg[i]) {
             return false;
         }
     }
@@ -47,54 +38,38 @@ fn are_digits(arg: &[u8], from: usize, to: usize) -> bool
 }
 
 // The number of these digits.
-fn value_in(arg: &[u8], from: usize, to: usize) -> Number
+fn value_in(arg: &[u8], from: usize, to: usize) -> Result<u32, NoNumber>
     requires from_le_to { from ≤ to }
     requires to_in_bounds { to ≤ length arg.now }
     ensures { result ≡ fitting (tens arg.now from (to - from)) }
 {
     let mut value: u32 = 0;
-    let mut i = from;
-    while i < to {
+    for i in from..to {
         let next = longer(value, arg[i]);
         if 4294967295 < next {
-            return Number::TooLarge;
+            return Err(NoNumber::TooLarge);
         }
         value = next as u32;
-        i += 1;
     }
-    Number::Value(value)
+    Ok(value)
 }
 
 // The number that the bytes from `from` to `to` are.
-pub fn number_in(arg: &[u8], from: usize, to: usize) -> Number
+pub fn number_in(arg: &[u8], from: usize, to: usize) -> Result<u32, NoNumber>
     ensures { result ≡ number_in arg.now from to }
 {
-    if from < to {
-        if to <= arg.len() {
-            if are_digits(arg, from, to) {
-                return value_in(arg, from, to);
-            }
-        }
+    if from < to && to <= arg.len() && are_digits(arg, from, to) {
+        value_in(arg, from, to)
+    } else {
+        Err(NoNumber::NoDigits)
     }
-    Number::Nothing
 }
 
 // Whether the argument begins with `word`.
 pub fn begins_with(arg: &[u8], word: &[u8]) -> bool
     ensures { result ≡ begins_with arg.now word.now }
 {
-    if arg.len() < word.len() {
-        return false;
-    }
-    let mut i = 0;
-    while i < word.len() {
-        if arg[i] == word[i] {
-            i += 1;
-        } else {
-            return false;
-        }
-    }
-    true
+    arg.starts_with(word)
 }
 
 // How long `word` is where the argument begins with it, and 0 where it does not.
@@ -103,17 +78,15 @@ pub fn after(arg: &[u8], word: &[u8]) -> usize
     ensures upper_bound { result ≤ length arg.now }
 {
     if begins_with(arg, word) {
-        return word.len();
+        word.len()
+    } else {
+        0
     }
-    0
 }
 
 // Whether the argument is `word`.
 pub fn is(arg: &[u8], word: &[u8]) -> bool
     ensures { result ≡ same arg.now word.now }
 {
-    if arg.len() == word.len() {
-        return begins_with(arg, word);
-    }
-    false
+    arg == word
 }

@@ -1,82 +1,73 @@
 // A moment that a person writes, as seconds or H:MM:SS, and one that a clock shows. Where a timetable counts from another midnight than 0,
 // its seconds are added to what is asked and taken off what is shown.
-ghost use Rattle.std.specs.Prelude.{◌≡◌, true, ◌+◌};
-ghost use Rattle.arguments.specs.Moment.{fits, sum_of, on_hours, with_seconds, of_clock, of_seconds, has_clock_form, moment_said};
+ghost use Rattle.std.specs.Prelude.{◌≡◌, ◌+◌};
+ghost use Rattle.arguments.specs.Moment.{fits, sum_of, of_clock, of_seconds, has_clock_form, moment_said};
 ghost use Rattle.arguments.specs.Moment.{face as face_of, clock_of};
+ghost use Rattle.arguments.specs.declared.bytes.NoNumber.{NoNumber};
 
 use super::bytes;
-use super::bytes::Number;
+use super::bytes::NoNumber;
+use std::fmt;
 
-// A moment, or why there is none.
-#[derive(Clone, Copy)]
-pub enum Moment {
-    At(u32),
+// Why an argument is no moment.
+#[derive(Clone, Copy, Debug, PartialEq, Eq)]
+pub enum NoMoment {
     NoForm,
     NoMinutes,
     TooLarge,
 }
 
+impl From<NoNumber> for NoMoment {
+    ghost use Rattle.arguments.specs.Moment.{moment_fault};
+
+    ghost from_gives = { λ e m. m ≡ moment_fault e };
+
+    fn from(e: NoNumber) -> NoMoment {
+        match e {
+            NoNumber::NoDigits => NoMoment::NoForm,
+            NoNumber::TooLarge => NoMoment::TooLarge,
+        }
+    }
+}
+
 // So many seconds, where they fit.
-fn fitting(t: u64) -> Moment
+fn fitting(t: u64) -> Result<u32, NoMoment>
     ensures { result ≡ fits t }
 {
     if t < 4294967296 {
-        return Moment::At(t as u32);
+        Ok(t as u32)
+    } else {
+        Err(NoMoment::TooLarge)
     }
-    Moment::TooLarge
 }
 
 // So many hours, minutes and seconds.
-fn sum(hours: u32, minutes: u32, seconds: u32) -> Moment
+fn sum(hours: u32, minutes: u32, seconds: u32) -> Result<u32, NoMoment>
     ensures { result ≡ sum_of hours minutes seconds }
 {
-    if 59 < minutes {
-        return Moment::NoMinutes;
-    }
-    if 59 < seconds {
-        return Moment::NoMinutes;
+    if 59 < minutes || 59 < seconds {
+        return Err(NoMoment::NoMinutes);
     }
     fitting(hours as u64 * 3600 + minutes as u64 * 60 + seconds as u64)
 }
 
-fn on_hours(hours: Number, m: u32, s: u32) -> Moment
-    ensures { result ≡ on_hours hours m s }
-{
-    match hours {
-        Number::Value(h) => sum(h, m, s),
-        Number::Nothing => Moment::NoForm,
-        Number::TooLarge => Moment::TooLarge,
-    }
-}
-
-fn with_seconds(hours: Number, m: u32, seconds: Number) -> Moment
-    ensures { result ≡ with_seconds hours m seconds }
-{
-    match seconds {
-        Number::Value(s) => on_hours(hours, m, s),
-        Number::Nothing => Moment::NoForm,
-        Number::TooLarge => Moment::NoForm,
-    }
-}
-
-fn of_clock(hours: Number, minutes: Number, seconds: Number) -> Moment
+fn of_clock(
+    hours: Result<u32, NoNumber>,
+    minutes: Result<u32, NoNumber>,
+    seconds: Result<u32, NoNumber>,
+) -> Result<u32, NoMoment>
     ensures { result ≡ of_clock hours minutes seconds }
 {
-    match minutes {
-        Number::Value(m) => with_seconds(hours, m, seconds),
-        Number::Nothing => Moment::NoForm,
-        Number::TooLarge => Moment::NoForm,
-    }
+    let (Ok(m), Ok(s)) = (minutes, seconds) else {
+        return Err(NoMoment::NoForm);
+    };
+    sum(hours?, m, s)
 }
 
-fn of_seconds(seconds: Number) -> Moment
+fn of_seconds(seconds: Result<u32, NoNumber>) -> Result<u32, NoMoment>
     ensures { result ≡ of_seconds seconds }
 {
-    match seconds {
-        Number::Value(t) => Moment::At(t),
-        Number::Nothing => Moment::NoForm,
-        Number::TooLarge => Moment::TooLarge,
-    }
+    Ok(seconds?)
 }
 
 // Whether an argument ends as H:MM:SS does: two digits each, since 7:5:00 could be meant as 7:50:00.
@@ -84,16 +75,11 @@ fn has_clock_form(arg: &[u8]) -> bool
     ensures { result ≡ has_clock_form arg.now }
 {
     let n = arg.len();
-    if 6 <= n {
-        if arg[n - 6] == 58 {
-            return arg[n - 3] == 58;
-        }
-    }
-    false
+    6 <= n && arg[n - 6] == b':' && arg[n - 3] == b':'
 }
 
 // The moment that an argument is.
-pub fn moment_of(arg: &[u8]) -> Moment
+pub fn moment_of(arg: &[u8]) -> Result<u32, NoMoment>
     ensures { result ≡ moment_said arg.now }
 {
     if has_clock_form(arg) {
@@ -107,7 +93,7 @@ pub fn moment_of(arg: &[u8]) -> Moment
 }
 
 // A moment that is asked, against a midnight of the timetable.
-pub fn moved(t: u32, midnight: u32) -> Moment
+pub fn moved(t: u32, midnight: u32) -> Result<u32, NoMoment>
     ensures { result ≡ fits (t + midnight) }
 {
     fitting(t as u64 + midnight as u64)
@@ -122,11 +108,29 @@ pub struct Clock {
     pub seconds: u32,
 }
 
+// H:MM:SS, and which day before where it is before midnight.
+impl fmt::Display for Clock {
+    fn fmt<W: fmt::Write>(&self, f: &mut fmt::Formatter<W>) -> fmt::Result {
+        let Clock {
+            days,
+            hours,
+            minutes,
+            seconds,
+        } = *self;
+        write!(f, "{hours}:{minutes:02}:{seconds:02}")?;
+        match days {
+            0 => Ok(()),
+            1 => write!(f, " the day before"),
+            _ => write!(f, " {days} days before"),
+        }
+    }
+}
+
 fn face(days: u32, s: u32) -> Clock
     ensures { result ≡ face_of days s }
 {
     Clock {
-        days: days,
+        days,
         hours: s / 3600,
         minutes: s / 60 % 60,
         seconds: s % 60,

@@ -1,35 +1,40 @@
 // The options behind the four arguments that a query has, in any order and each at most once.
 ghost use Rattle.std.specs.Prelude.{◌≡◌};
-ghost use Rattle.arguments.specs.Options.{unsaid, walks_said, mode_said, tables_said, midnight_said, said_of};
-ghost use Rattle.arguments.specs.Options.{with_walks, with_mode, with_tables, with_midnight, with_bytes_said, with_said};
+ghost use Rattle.arguments.specs.Options.{unsaid, walks_said, mode_said, tables_said, midnight_said, said_of, with_said};
 
 use super::bytes;
-use super::bytes::Number;
+use super::bytes::NoNumber;
+use std::fmt;
 
 // What is said so far.
 #[derive(Clone, Copy)]
 pub struct Options {
-    // 0 unsaid, 1 yes, 2 no
-    pub walks: u32,
-    // 0 unsaid, 1 the source's, 2 rescan
-    pub mode: u32,
-    // the place of the argument that names a file of tables, and 0 for none
-    pub file: usize,
-    // whether a midnight is said, and its seconds
-    pub moved: bool,
-    pub midnight: u32,
+    // `walks:yes` or `walks:no`
+    pub walks: Option<bool>,
+    // whether `mode:rescan` is said and not `mode:source`
+    pub rescan: Option<bool>,
+    // the place of the argument that names a file of tables
+    pub file: Option<usize>,
+    // the seconds of midnight
+    pub midnight: Option<u32>,
     // whether the journey is asked for as bytes
     pub bytes: bool,
 }
 
-// The option that an argument is, or of which option it is a bad one.
+// The option that an argument is.
 #[derive(Clone, Copy)]
 pub enum Said {
-    Walks(u32),
-    Mode(u32),
+    Walks(bool),
+    Rescan(bool),
     Tables,
     Midnight(u32),
     Bytes,
+}
+
+// Why an argument is no option that may be taken.
+#[derive(Clone, Copy)]
+pub enum NoOption {
+    Twice(Said),
     BadWalks,
     BadMode,
     BadTables,
@@ -37,72 +42,95 @@ pub enum Said {
     Unknown,
 }
 
-// The options, or why they are none.
-#[derive(Clone, Copy)]
-pub enum Chosen {
-    Options(Options),
-    Twice,
-    Bad,
+// The name of the option.
+impl fmt::Display for Said {
+    fn fmt<W: fmt::Write>(&self, f: &mut fmt::Formatter<W>) -> fmt::Result {
+        match self {
+            Said::Walks(_) => write!(f, "walks"),
+            Said::Rescan(_) => write!(f, "mode"),
+            Said::Tables => write!(f, "tables"),
+            Said::Midnight(_) => write!(f, "midnight"),
+            Said::Bytes => write!(f, "bytes"),
+        }
+    }
+}
+
+// What is said behind the argument that is none.
+impl fmt::Display for NoOption {
+    fn fmt<W: fmt::Write>(&self, f: &mut fmt::Formatter<W>) -> fmt::Result {
+        match self {
+            NoOption::Twice(said) => write!(f, ": {said} is given twice, and may be given once"),
+            NoOption::BadWalks => write!(f, " is no option: walks is yes or no"),
+            NoOption::BadMode => write!(f, " is no option: mode is source or rescan"),
+            NoOption::BadTables => write!(f, " names no file"),
+            NoOption::BadMidnight => write!(
+                f,
+                " is no option: midnight is a number of seconds, at most 4294967295"
+            ),
+            NoOption::Unknown => write!(
+                f,
+                " is no option: there are walks, mode, tables, midnight and bytes"
+            ),
+        }
+    }
 }
 
 pub fn none() -> Options
     ensures { result ≡ unsaid }
 {
     Options {
-        walks: 0,
-        mode: 0,
-        file: 0,
-        moved: false,
-        midnight: 0,
+        walks: None,
+        rescan: None,
+        file: None,
+        midnight: None,
         bytes: false,
     }
 }
 
-fn walks_said(arg: &[u8]) -> Said
+fn walks_said(arg: &[u8]) -> Result<Said, NoOption>
     ensures { result ≡ walks_said arg.now }
 {
     if bytes::is(arg, b"walks:yes") {
-        return Said::Walks(1);
+        return Ok(Said::Walks(true));
     }
     if bytes::is(arg, b"walks:no") {
-        return Said::Walks(2);
+        return Ok(Said::Walks(false));
     }
-    Said::BadWalks
+    Err(NoOption::BadWalks)
 }
 
-fn mode_said(arg: &[u8]) -> Said
+fn mode_said(arg: &[u8]) -> Result<Said, NoOption>
     ensures { result ≡ mode_said arg.now }
 {
     if bytes::is(arg, b"mode:source") {
-        return Said::Mode(1);
+        return Ok(Said::Rescan(false));
     }
     if bytes::is(arg, b"mode:rescan") {
-        return Said::Mode(2);
+        return Ok(Said::Rescan(true));
     }
-    Said::BadMode
+    Err(NoOption::BadMode)
 }
 
-fn tables_said(arg: &[u8]) -> Said
+fn tables_said(arg: &[u8]) -> Result<Said, NoOption>
     ensures { result ≡ tables_said arg.now }
 {
     if 7 < arg.len() {
-        return Said::Tables;
+        return Ok(Said::Tables);
     }
-    Said::BadTables
+    Err(NoOption::BadTables)
 }
 
-fn midnight_said(seconds: Number) -> Said
+fn midnight_said(seconds: Result<u32, NoNumber>) -> Result<Said, NoOption>
     ensures { result ≡ midnight_said seconds }
 {
     match seconds {
-        Number::Value(t) => Said::Midnight(t),
-        Number::Nothing => Said::BadMidnight,
-        Number::TooLarge => Said::BadMidnight,
+        Ok(t) => Ok(Said::Midnight(t)),
+        Err(_) => Err(NoOption::BadMidnight),
     }
 }
 
 // The option that an argument is.
-pub fn said_of(arg: &[u8]) -> Said
+pub fn said_of(arg: &[u8]) -> Result<Said, NoOption>
     ensures { result ≡ said_of arg.now }
 {
     if bytes::begins_with(arg, b"walks:") {
@@ -118,105 +146,25 @@ pub fn said_of(arg: &[u8]) -> Said
         return midnight_said(bytes::number_in(arg, 9, arg.len()));
     }
     if bytes::is(arg, b"bytes") {
-        return Said::Bytes;
+        return Ok(Said::Bytes);
     }
-    Said::Unknown
-}
-
-fn with_walks(o: Options, walks: u32) -> Chosen
-    ensures { result ≡ with_walks o walks }
-{
-    if o.walks == 0 {
-        return Chosen::Options(Options {
-            walks: walks,
-            mode: o.mode,
-            file: o.file,
-            moved: o.moved,
-            midnight: o.midnight,
-            bytes: o.bytes,
-        });
-    }
-    Chosen::Twice
-}
-
-fn with_mode(o: Options, mode: u32) -> Chosen
-    ensures { result ≡ with_mode o mode }
-{
-    if o.mode == 0 {
-        return Chosen::Options(Options {
-            walks: o.walks,
-            mode: mode,
-            file: o.file,
-            moved: o.moved,
-            midnight: o.midnight,
-            bytes: o.bytes,
-        });
-    }
-    Chosen::Twice
-}
-
-fn with_tables(o: Options, file: usize) -> Chosen
-    ensures { result ≡ with_tables o file }
-{
-    if o.file == 0 {
-        return Chosen::Options(Options {
-            walks: o.walks,
-            mode: o.mode,
-            file: file,
-            moved: o.moved,
-            midnight: o.midnight,
-            bytes: o.bytes,
-        });
-    }
-    Chosen::Twice
-}
-
-fn with_midnight(o: Options, midnight: u32) -> Chosen
-    ensures { result ≡ with_midnight o midnight }
-{
-    if o.moved {
-        return Chosen::Twice;
-    }
-    Chosen::Options(Options {
-        walks: o.walks,
-        mode: o.mode,
-        file: o.file,
-        moved: true,
-        midnight: midnight,
-        bytes: o.bytes,
-    })
-}
-
-fn with_bytes(o: Options) -> Chosen
-    ensures { result ≡ with_bytes_said o }
-{
-    if o.bytes {
-        return Chosen::Twice;
-    }
-    Chosen::Options(Options {
-        walks: o.walks,
-        mode: o.mode,
-        file: o.file,
-        moved: o.moved,
-        midnight: o.midnight,
-        bytes: true,
-    })
+    Err(NoOption::Unknown)
 }
 
 // The options with one more, which argument i said.
-pub fn with_said(o: Options, said: Said, i: usize) -> Chosen
+pub fn with_said(o: Options, said: Said, i: usize) -> Result<Options, NoOption>
     ensures { result ≡ with_said o said i }
 {
-    match said {
-        Said::Walks(v) => with_walks(o, v),
-        Said::Mode(v) => with_mode(o, v),
-        Said::Tables => with_tables(o, i),
-        Said::Midnight(t) => with_midnight(o, t),
-        Said::Bytes => with_bytes(o),
-        Said::BadWalks => Chosen::Bad,
-        Said::BadMode => Chosen::Bad,
-        Said::BadTables => Chosen::Bad,
-        Said::BadMidnight => Chosen::Bad,
-        Said::Unknown => Chosen::Bad,
+    let mut more = o;
+    let twice = match said {
+        Said::Walks(yes) => more.walks.replace(yes).is_some(),
+        Said::Rescan(rescan) => more.rescan.replace(rescan).is_some(),
+        Said::Tables => more.file.replace(i).is_some(),
+        Said::Midnight(t) => more.midnight.replace(t).is_some(),
+        Said::Bytes => std::mem::replace(&mut more.bytes, true),
+    };
+    if twice {
+        return Err(NoOption::Twice(said));
     }
+    Ok(more)
 }

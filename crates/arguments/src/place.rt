@@ -1,17 +1,15 @@
 // A place that a person names: the number of a stop, or `area:` and a number.
 ghost use Rattle.std.specs.Prelude.{◌≡◌};
-ghost use Rattle.arguments.specs.Place.{numbered, located, place_said};
+ghost use Rattle.arguments.specs.Place.{numbered, place_said};
 
 use super::bytes;
-use super::bytes::Number;
+use super::bytes::NoNumber;
 
-// A place, or why there is none.
+// What a person writes is read here without the search's types; `questions` says which place is asked.
 #[derive(Clone, Copy)]
 pub enum Place {
     Stop(u32),
     Area(u32),
-    Nothing,
-    TooLarge,
 }
 
 fn stop_or_area(from: usize, n: u32) -> Place
@@ -23,21 +21,11 @@ fn stop_or_area(from: usize, n: u32) -> Place
     Place::Area(n)
 }
 
-fn place_at(from: usize, number: Number) -> Place
-    ensures { result ≡ located from number }
-{
-    match number {
-        Number::Value(n) => stop_or_area(from, n),
-        Number::Nothing => Place::Nothing,
-        Number::TooLarge => Place::TooLarge,
-    }
-}
-
 // The place that an argument is.
-pub fn place_of(arg: &[u8]) -> Place
+pub fn place_of(arg: &[u8]) -> Result<Place, NoNumber>
     ensures { result ≡ place_said arg.now }
 {
     let from = bytes::after(arg, b"area:");
-    let number = bytes::number_in(arg, from, arg.len());
-    place_at(from, number)
+    let number = bytes::number_in(arg, from, arg.len())?;
+    Ok(stop_or_area(from, number))
 }

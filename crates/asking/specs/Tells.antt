@@ -1,35 +1,35 @@
 -- What `ask` tells and leaves: what `solve` does in as much of each slice as the tables ask for. "Each public function states the complete
 -- result and the final contents of everything lent, refusals included"; two results that meet `Tells` are equal (`asked_unique` of
 -- proofs/Unique.antt).
-use Rattle.std.specs.Prelude.{ℕ, ◌≡◌, Bool, true, false, ◌&&◌, List, leb, length, take, drop}
-use Rattle.model.specs.declared.Answer.{Answer}
-use Rattle.model.specs.declared.Answer.TheVariants.{Refused}
+use Rattle.std.specs.Prelude.{ℕ, ◌≡◌, Bool, true, false, ◌&&◌, List, leb, length, take, drop, Option, Some, None, Ok, Err}
+use Rattle.model.specs.declared.Error.TheVariants.{Refused}
 use Rattle.model.specs.declared.Query.{Query}
-use Rattle.raptor.specs.declared.Needed.TheVariants.{Lengths, Refused as NoLengths}
+use Rattle.model.specs.declared.Refusal.{Refusal}
+use Rattle.model.specs.Answer.{Answer}
+use Rattle.raptor.specs.declared.Lengths.{Lengths}
 use Rattle.raptor.specs.Rooms.{room_of}
 use Rattle.raptor.specs.Lent.{Lent}
 use Rattle.raptor.specs.Solved.{Solved}
-use Rattle.asking.specs.declared.Told.{Told}
-use Rattle.asking.specs.declared.Told.TheVariants.{Answer as Tell, TooLarge}
 
--- the slices have a words, b marks and c places at least
-unfoldable pub enough : ℕ → ℕ → ℕ → Lent → Bool
-enough a b c l = leb a (length l.words) && leb b (length l.marks) && leb c (length l.places)
+-- the slices have the words, marks and places of n at least
+unfoldable pub enough : Lengths → Lent → Bool
+enough n l = leb n.words (length l.words) && leb n.marks (length l.marks) && leb n.places (length l.places)
 
--- the first a words, b marks and c places, and the journey buffer whole
-abbrev pub foremost : ℕ → ℕ → ℕ → Lent → Lent
-foremost a b c l = record { words = take a l.words; marks = take b l.marks; places = take c l.places; journey = l.journey }
+-- the first words, marks and places, as many as n says, and the journey buffer whole
+abbrev pub foremost : Lengths → Lent → Lent
+foremost n l =
+    record { words = take n.words l.words; marks = take n.marks l.marks; places = take n.places l.places; journey = l.journey }
 
--- solved in the first a words, b marks and c places, and nothing changed behind them
-pub record SolvedIn (a b c : ℕ) (t : List ℕ) (q : Query) (before : Lent) (x : Answer) (after : Lent) : Type 0 where
-  pub solved : Solved t q (foremost a b c before) x (foremost a b c after)
-  pub words : drop a after.words ≡ drop a before.words
-  pub marks : drop b after.marks ≡ drop b before.marks
-  pub places : drop c after.places ≡ drop c before.places
+-- solved in the first words, marks and places, and nothing changed behind them
+pub record SolvedIn (n : Lengths) (t : List ℕ) (q : Query) (before : Lent) (x : Answer) (after : Lent) : Type 0 where
+  pub solved : Solved t q (foremost n before) x (foremost n after)
+  pub words : drop n.words after.words ≡ drop n.words before.words
+  pub marks : drop n.marks after.marks ≡ drop n.marks before.marks
+  pub places : drop n.places after.places ≡ drop n.places before.places
 
 -- tables t, query q, and the slices as they are lent; what is told, r, and the slices as they are left
-pub record Tells (t : List ℕ) (q : Query) (before : Lent) (r : Told) (after : Lent) : Type 0 where
-  pub refused : (k : ℕ) → room_of t ≡ NoLengths k → (r ≡ Tell (Refused k)) × (after ≡ before)
-  pub large : (a b c : ℕ) → room_of t ≡ Lengths a b c → enough a b c before ≡ false → (r ≡ TooLarge) × (after ≡ before)
-  pub solved : (a b c : ℕ) → room_of t ≡ Lengths a b c → enough a b c before ≡ true
-      → (x : Answer) × (r ≡ Tell x) × SolvedIn a b c t q before x after
+pub record Tells (t : List ℕ) (q : Query) (before : Lent) (r : Option Answer) (after : Lent) : Type 0 where
+  pub refused : (k : Refusal) → room_of t ≡ Err k → (r ≡ Some (Err (Refused k))) × (after ≡ before)
+  pub large : (n : Lengths) → room_of t ≡ Ok n → enough n before ≡ false → (r ≡ None) × (after ≡ before)
+  pub solved : (n : Lengths) → room_of t ≡ Ok n → enough n before ≡ true
+      → (x : Answer) × (r ≡ Some x) × SolvedIn n t q before x after

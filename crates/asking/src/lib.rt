@@ -6,55 +6,32 @@ ghost use Rattle.asking.specs.Queries.{place_in, when_in, walks_in, mode_in, que
 ghost use Rattle.raptor.specs.Lent.{lent};
 ghost use Rattle.asking.specs.Tells.{Tells};
 
-use model::{Answer, Location, Mode, Query, TimeConstraint, Walks};
-use raptor::Needed;
+use model::{Answer, Error, Location, Mode, Query, TimeConstraint, Walks};
 use shared::Time;
 
-// What a program is told: the answer, or that its slices are too small for the tables.
-#[derive(Clone, Copy)]
-pub enum Told {
-    Answer(Answer),
-    TooLarge,
-}
-
-// A query, or nothing that is one.
-#[derive(Clone, Copy)]
-pub enum Asked {
-    Query(Query),
-    Nothing,
-}
-
-// A place, or nothing that is one: `s` for a stop, `a` for an area.
-#[derive(Clone, Copy)]
-enum Place {
-    At(Location),
-    Nowhere,
-}
-
-fn place_of(kind: u32, at: u32) -> Place
+// `s` for a stop, `a` for an area.
+fn place_of(kind: u32, at: u32) -> Option<Location>
     ensures { result ≡ place_in kind at }
 {
+    const STOP: u32 = b's' as u32;
+    const AREA: u32 = b'a' as u32;
     match kind {
-        115 => return Place::At(Location::Stop(at)),
-        97 => return Place::At(Location::Area(at)),
-        _ => return Place::Nowhere,
+        STOP => Some(Location::Stop(at)),
+        AREA => Some(Location::Area(at)),
+        _ => None,
     }
 }
 
-// A moment, or nothing that is one: `d` departs at it, `a` arrives by it.
-#[derive(Clone, Copy)]
-enum When {
-    At(TimeConstraint),
-    Never,
-}
-
-fn moment_of(kind: u32, moment: u32) -> When
+// `d` departs at the moment, `a` arrives by it.
+fn moment_of(kind: u32, moment: u32) -> Option<TimeConstraint>
     ensures { result ≡ when_in kind moment }
 {
+    const DEPART: u32 = b'd' as u32;
+    const ARRIVE: u32 = b'a' as u32;
     match kind {
-        100 => return When::At(TimeConstraint::Departure(Time(moment))),
-        97 => return When::At(TimeConstraint::Arrival(Time(moment))),
-        _ => return When::Never,
+        DEPART => Some(TimeConstraint::Departure(Time(moment))),
+        ARRIVE => Some(TimeConstraint::Arrival(Time(moment))),
+        _ => None,
     }
 }
 
@@ -63,9 +40,9 @@ fn walks(word: u32) -> Walks
     ensures { result ≡ walks_in word }
 {
     match word {
-        0 => return Walks::Barred,
-        1 => return Walks::Allowed,
-        _ => return Walks::Unsaid,
+        0 => Walks::Barred,
+        1 => Walks::Allowed,
+        _ => Walks::Unsaid,
     }
 }
 
@@ -73,43 +50,30 @@ fn walks(word: u32) -> Walks
 fn mode(word: u32) -> Mode
     ensures { result ≡ mode_in word }
 {
-    if word == 114 {
-        return Mode::Rescan;
+    if word == u32::from(b'r') {
+        Mode::Rescan
+    } else {
+        Mode::Source
     }
-    Mode::Source
 }
 
 // The query that the words `fromkind from tokind to d|a moment walks` are, in a mode.
-pub fn query(line: &[u32], how: u32) -> Asked
+pub fn query(line: &[u32], how: u32) -> Option<Query>
     ensures { result ≡ query_in line.now how }
 {
     if line.len() < 7 {
-        return Asked::Nothing;
+        return None;
     }
-    let from = place_of(line[0], line[1]);
-    let to = place_of(line[2], line[3]);
-    let time = moment_of(line[4], line[5]);
-    let Place::At(f) = from else {
-        return Asked::Nothing;
-    };
-    let Place::At(t) = to else {
-        return Asked::Nothing;
-    };
-    let When::At(c) = time else {
-        return Asked::Nothing;
-    };
-    let w = walks(line[6]);
-    let m = mode(how);
-    Asked::Query(Query {
-        from: f,
-        to: t,
-        time: c,
-        walks: w,
-        mode: m,
+    Some(Query {
+        from: place_of(line[0], line[1])?,
+        to: place_of(line[2], line[3])?,
+        time: moment_of(line[4], line[5])?,
+        walks: walks(line[6]),
+        mode: mode(how),
     })
 }
 
-// The answer of `solve`, in a workspace of just the size that the tables ask for.
+// The answer of `solve`, in a workspace of just the size that the tables ask for. None, where a slice is too small for the tables.
 pub fn ask(
     tables: &[u32],
     words: &mut [u32],
@@ -117,37 +81,31 @@ pub fn ask(
     places: &mut [u32],
     journey: &mut [u8],
     q: Query,
-) -> Told
+) -> Option<Answer>
     ensures { Tells tables.now q
         (lent words.old marks.old places.old journey.old) result
         (lent words.new marks.new places.new journey.new) }
 {
-    let needed = raptor::room(tables);
-    match needed {
-        Needed::Lengths {
-            words: w,
-            marks: y,
-            places: p,
-        } => {
-            if words.len() < w {
-                return Told::TooLarge;
-            }
-            if marks.len() < y {
-                return Told::TooLarge;
-            }
-            if places.len() < p {
-                return Told::TooLarge;
-            }
-            let answer = raptor::solve(
-                tables,
-                &mut words[..w],
-                &mut marks[..y],
-                &mut places[..p],
-                journey,
-                q,
-            );
-            return Told::Answer(answer);
-        }
-        Needed::Refused(number) => return Told::Answer(Answer::Refused(number)),
+    let needed = match raptor::room(tables) {
+        Ok(lengths) => lengths,
+        Err(refusal) => return Some(Err(Error::Refused(refusal))),
+    };
+    if words.len() < needed.words {
+        return None;
     }
+    if marks.len() < needed.marks {
+        return None;
+    }
+    if places.len() < needed.places {
+        return None;
+    }
+    let answer = raptor::solve(
+        tables,
+        &mut words[..needed.words],
+        &mut marks[..needed.marks],
+        &mut places[..needed.places],
+        journey,
+        q,
+    );
+    Some(answer)
 }

@@ -5,7 +5,7 @@ use mathlib.Core.Bool.{Bool, true, false}
 use mathlib.Core.List.{List}
 use native.Mathlib.Omega.{arith}
 use lib.Dec.{leb, ltb}
-use borrow.Author.Tests.{ltb-true, ltb-false, leb-true, leb-false, le-leb, lt-leb, eqb-true}
+use borrow.Author.Tests.{ltb-true, ltb-false, leb-true, leb-false, le-leb, lt-leb, le-ltb, eqb-true}
 use Rattle.base.proofs.Choice.{split, same_test, and_left}
 use Rattle.base.proofs.All.{all_at}
 use Rattle.base.specs.Halving.{Rising, Bracket}
@@ -132,8 +132,9 @@ module _ {w : List ℕ} {r p s : ℕ} (l : Laid w) (t : route_stops w ≡ true) 
             let is : x.at ≡ a + i = row_is x.at x.from x.to route in
             (omega arith, rw is at x.passes)
 
-        pub called_none : n ≤ i → false ≡ called w r p
-        called_none h = split (called w r p) (λ e. let in_range_lem = (here e).0 in absurd (omega arith)) (λ e. sym e)
+        pub called_none : n ≤ i → ltb i n ≡ called w r p
+        called_none h =
+            le-ltb i n h ∙ split (called w r p) (λ e. let in_range_lem = (here e).0 in absurd (omega arith)) (λ e. sym e)
 
         pub called_there : {ok : Bool} → i < n → ok ≡ calls w r p (a + i) → ok ≡ called w r p
         called_there {ok} h is =

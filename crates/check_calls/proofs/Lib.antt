@@ -4,8 +4,4 @@ pub mod Facts
 pub mod CallRows
 pub mod Rooms
 pub mod Entries
-pub mod Rows
-pub mod Turns
-pub mod Loops
 pub mod Halved
-pub mod Parts

@@ -20,8 +20,8 @@ pub record RowOf (w : List ℕ) (k n j : ℕ) : Type 0 where
 
 module _ {w : List ℕ} {k n m : ℕ} (s : Starts w k n m) where
   -- a row of an entry is a row of the list
-  pub row_in : (i : ℕ) {j e c : ℕ} → i < c → c ≡ n → j < e → e ≡ sec w k (i + 1) → j < m
-  row_in i h f g e = omega (arith, starts_top s (i + 1) (omega arith))
+  pub row_in : (i : ℕ) {j e : ℕ} → i < n → j < e → e ≡ sec w k (i + 1) → j < m
+  row_in i h g e = omega (arith, starts_top s (i + 1) (omega arith))
 
   -- a row of the list is a row of an entry
   sought : (i j : ℕ) → i ≤ n → j < sec w k i → RowOf w k n j

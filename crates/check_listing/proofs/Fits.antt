@@ -1,17 +1,16 @@
 -- What a list whose indices were found in range gives to the parts after it: entries of other lists, and a mark each.
 use Prim.Native.Nat.{ℕ, ◌+◌, ◌*◌, ◌≤◌, ◌<◌}
 use mathlib.Core.Path.{◌≡◌, sym, ◌∙◌}
-use mathlib.Core.Bool.{Bool, true, false, not}
+use mathlib.Core.Bool.{Bool, true}
 use mathlib.Core.List.{List}
 use native.Mathlib.Omega.{arith}
 use lib.ListN.{replicate, length-replicate}
-use borrow.Author.Tests.{not-false}
 use Rattle.base.proofs.Choice.{and_left}
 use Rattle.marks.proofs.Laws.{clear_none}
 use Rattle.repository.specs.Sections.{size, sec, stops, trips, areas, CHILD_STARTS, CHILDREN, ROUTE_TRIPS, TIME_STARTS}
 use Rattle.repository.specs.Sections.{AREA_STARTS, AREA_STOPS}
 use Rattle.repository.specs.Laid.{Laid}
-use Rattle.repository.specs.Listed.{in_range, under, child, children_name, route_trips, distinct}
+use Rattle.repository.specs.Listed.{in_range, child, children_name, route_trips, distinct}
 use Rattle.repository.specs.Entries.{Entry}
 use Rattle.check_calls.proofs.Facts.{under_shown, index_shown}
 use Rattle.check_listing.specs.Fitting.{Fitting, Unmarked}
@@ -34,23 +33,23 @@ module _ {w : List ℕ} (l : Laid w) where
         record { section = omega arith; next = omega (arith, trip_in t); rise = l.time_starts.rise v (trip_in t) }
 
   -- ---- marks
-  pub children_fit : {n : ℕ} {ok : Bool} → ok ≡ children_name w → not ok ≡ false → n ≡ size w CHILDREN → Fitting w CHILDREN 0 n 64
+  pub children_fit : {n : ℕ} {ok : Bool} → ok ≡ children_name w → ok ≡ true → n ≡ size w CHILDREN → Fitting w CHILDREN 0 n 64
   unfolding children_name
   children_fit {n} {ok} is t e = record { section = omega arith; order = omega arith; within = omega arith; marks = fit }
     where
       fit : (i : ℕ) → 0 ≤ i → i < n → sec w CHILDREN i < 64 * 64
       fit i g h =
           let r = row_of l.child_starts i (omega arith) in
-          let own = under_shown w CHILD_STARTS (stops w) (child w) (sym is ∙ not-false ok t) r.at i r.below r.under in
+          let own = under_shown w CHILD_STARTS (stops w) (child w) (sym is ∙ t) r.at i r.below r.under in
           omega (arith, (child_shown w r.at i own).0)
 
-  pub trips_fit : {n m : ℕ} {ok : Bool} → ok ≡ in_range w ROUTE_TRIPS n → n ≡ trips w → not ok ≡ false → m ≡ size w ROUTE_TRIPS
+  pub trips_fit : {n m : ℕ} {ok : Bool} → ok ≡ in_range w ROUTE_TRIPS n → n ≡ trips w → ok ≡ true → m ≡ size w ROUTE_TRIPS
       → Fitting w ROUTE_TRIPS 0 m 256
   trips_fit {n} {m} {ok} is f t e = record {
     section = omega arith;
     order = omega arith;
     within = omega arith;
-    marks = λ i g h. omega (arith, index_shown w ROUTE_TRIPS n (sym is ∙ not-false ok t) i (omega arith));
+    marks = λ i g h. omega (arith, index_shown w ROUTE_TRIPS n (sym is ∙ t) i (omega arith));
   }
 
   pub area_fit : (a : ℕ) {from to : ℕ} → in_range w AREA_STOPS (stops w) ≡ true → a < areas w → from ≡ sec w AREA_STARTS a

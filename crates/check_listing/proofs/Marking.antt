@@ -1,19 +1,19 @@
 -- Words found distinct by marks: a word that was marked before stands twice; else the marks stand for all of them.
 use Prim.Native.Nat.{ℕ, suc, ◌+◌, ◌-◌, ◌*◌, ◌≤◌, ◌<◌}
 use mathlib.Core.Path.{◌≡◌, refl, sym, ap, ◌∙◌}
-use mathlib.Core.Bool.{Bool, true, false, not, ◌||◌, true≢false}
+use mathlib.Core.Bool.{Bool, true, false, ◌||◌, true≢false}
 use mathlib.Core.List.{List}
 use native.Mathlib.Numerals.{add-one}
 use native.Mathlib.Omega.{arith}
 use lib.Dec.{eqb}
-use borrow.Author.Tests.{eqb-true, eqb-false, eq-eqb, ne_eqb, not-false}
+use borrow.Author.Tests.{eqb-true, eqb-false, eq-eqb, ne_eqb}
 use lib.ListN.{length}
 use Rattle.base.proofs.Choice.{split}
 use Rattle.base.specs.All.{So}
 use Rattle.base.proofs.All.{so_start, so_on, so_fails, so_passes}
 use Rattle.marks.specs.Marks.{marked, with_mark, Stand}
 use Rattle.marks.proofs.Stand.{stand_more}
-use Rattle.repository.specs.Sections.{size, sec, CHILDREN}
+use Rattle.repository.specs.Sections.{sec}
 use Rattle.repository.specs.Listed.{among, unseen, distinct}
 use Rattle.check_listing.specs.Fitting.{Fitting, Unmarked, JustMarked, marked_on, marked_by}
 use Rattle.check_calls.proofs.Ranges.{some_none, some_more}
@@ -100,7 +100,3 @@ module _ {w : List ℕ} {k a b : ℕ} where
 -- an answer of no says nothing here: `marked_by` says which marks are left
 pub marks_none : {ws w : List ℕ} {k a b : ℕ} → JustMarked false ws w k a b
 marks_none = record { stand = λ e. absurd (true≢false (sym e)) }
-
-pub children_marked : {ws w : List ℕ} {n : ℕ} {ok : Bool} → JustMarked ok ws w CHILDREN 0 n → not ok ≡ false → n ≡ size w CHILDREN
-    → Stand ws (among w CHILDREN 0 (size w CHILDREN))
-children_marked {ok = ok} h t e = rw e at (h.stand (not-false ok t))

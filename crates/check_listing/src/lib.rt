@@ -15,50 +15,30 @@ mod standing;
 mod stops;
 
 // Whether stops, stations and routes keep their rules.
+#[tactic(auto, unfolding(repository::specs::Listed::framed))]
 fn framed_ok(tables: &[u32]) -> bool
     requires { Laid tables.now }
     ensures { result ≡ framed tables.now }
 {
-    if !stops::stop_list_ok(tables) {
-        return false;
-    }
-    if !stops::stations_ok(tables) {
-        return false;
-    }
-    if !children::children_ok(tables) {
-        return false;
-    }
-    if !routes::route_stops_ok(tables) {
-        return false;
-    }
-    if !routes::route_trips_ok(tables) {
-        return false;
-    }
-    if !routes::trip_times_ok(tables) {
-        return false;
-    }
-    standing::standings_ok(tables)
+    stops::stop_list_ok(tables)
+        && stops::stations_ok(tables)
+        && children::children_ok(tables)
+        && routes::route_stops_ok(tables)
+        && routes::route_trips_ok(tables)
+        && routes::trip_times_ok(tables)
+        && standing::standings_ok(tables)
 }
 
 // Whether laid tables have no number 2.
+#[tactic(auto, unfolding(repository::specs::Listed::well_listed))]
 pub fn listing_ok(tables: &[u32]) -> bool
     requires { Laid tables.now }
     ensures { result ≡ well_listed tables.now }
 {
-    if !framed_ok(tables) {
-        return false;
-    }
-    if !check_calls::calls::stop_routes_ok(tables) {
-        return false;
-    }
-    if !check_calls::served::served_ok(tables) {
-        return false;
-    }
-    if !paths::transfers_ok(tables) {
-        return false;
-    }
-    if !paths::walks_ok(tables) {
-        return false;
-    }
-    areas::areas_ok(tables)
+    framed_ok(tables)
+        && check_calls::calls::stop_routes_ok(tables)
+        && check_calls::served::served_ok(tables)
+        && paths::transfers_ok(tables)
+        && paths::walks_ok(tables)
+        && areas::areas_ok(tables)
 }

@@ -5,26 +5,24 @@ ghost use Rattle.repository.specs.Listed.{distinct};
 ghost use Rattle.check_listing.specs.Fitting.{Fitting, Unmarked, JustMarked, marked_by};
 
 use repository::words::item;
+use std::ops::Range;
 
-// Whether no two of the words a, .., b - 1 of section k are the same. If so, these are marked, and nothing else; if not,
-// those before the first that repeats another.
-pub fn marked_once(tables: &[u32], k: usize, a: u32, b: u32, marks: &mut [u64]) -> bool
+// Whether no two of the words at these places of section k are the same. If so, these are marked, and nothing else; if
+// not, those before the first that repeats another.
+pub fn marked_once(tables: &[u32], k: usize, places: Range<u32>, marks: &mut [u64]) -> bool
     requires laid { Laid tables.now }
-    requires fitting { Fitting tables.now k a b (length marks.old) }
+    requires fitting { Fitting tables.now k places.start places.end (length marks.old) }
     requires unmarked { Unmarked marks.old }
-    ensures value { result ≡ distinct tables.now k a b }
-    ensures marks_after { marks.new ≡ marked_by tables.now k a b marks.old }
-    ensures just_marked { JustMarked result marks.new tables.now k a b }
+    ensures value { result ≡ distinct tables.now k places.start places.end }
+    ensures marks_after { marks.new ≡ marked_by tables.now k places.start places.end marks.old }
+    ensures just_marked { JustMarked result marks.new tables.now k places.start places.end }
 {
-    let mut i = a;
-    while i < b {
+    for i in places.start..places.end {
         let s = item(tables, k, i as usize) as usize;
-        let seen = marks::is_marked(marks, s);
-        if seen {
+        if marks::is_marked(marks, s) {
             return false;
         }
         marks::set_mark(marks, s);
-        i += 1;
     }
     true
 }

@@ -1,23 +1,31 @@
 // The rules for footpaths: transfers and walks.
 ghost use Rattle.std.specs.Prelude.{◌≡◌, ◌<◌};
-ghost use Rattle.repository.specs.Sections.{rows, TRANSFERS, TRANSFER_WORDS};
+ghost use Rattle.repository.specs.Sections.{rows, stops, TRANSFER_STARTS, TRANSFERS, TRANSFER_WORDS};
 ghost use Rattle.repository.specs.Laid.{Laid};
-ghost use Rattle.repository.specs.Listed.{transfer, transfers, walks};
+ghost use Rattle.repository.specs.Listed.{under, transfer, transfers, walks};
 
 use repository::sections;
-use repository::words::{item, rows_of, size_of};
+use repository::words::{item, rows_of, rows_under, size_of};
 
+#[tactic(auto, unfolding(repository::specs::Listed::transfer))]
 fn transfer_ok(tables: &[u32], s: u32, j: u32) -> bool
     requires laid { Laid tables.now }
     requires j_bound { j < rows tables.now TRANSFERS TRANSFER_WORDS }
     ensures { result ≡ transfer tables.now s j }
 {
     let at = j as usize * sections::TRANSFER_WORDS;
-    if item(tables, sections::TRANSFERS, at) != s {
-        return false;
-    }
-    item(tables, sections::TRANSFERS, at + sections::TRANSFER_TO)
-        < size_of(tables, sections::STOP_LIST)
+    item(tables, sections::TRANSFERS, at) == s
+        && item(tables, sections::TRANSFERS, at + sections::TRANSFER_TO)
+            < size_of(tables, sections::STOP_LIST)
+}
+
+// Whether the transfers that are listed under stop s leave it, and lead to stops.
+fn transfers_of_ok(tables: &[u32], s: u32) -> bool
+    requires laid { Laid tables.now }
+    requires s_bound { s < stops tables.now }
+    ensures { result ≡ under tables.now TRANSFER_STARTS (transfer tables.now) s }
+{
+    rows_under(tables, sections::TRANSFER_STARTS, s).all(|j| transfer_ok(tables, s, j))
 }
 
 // Whether each transfer is listed under the stop that it leaves, and leads to a stop.
@@ -26,19 +34,7 @@ pub fn transfers_ok(tables: &[u32]) -> bool
     ensures { result ≡ transfers tables.now }
 {
     let n = size_of(tables, sections::STOP_LIST);
-    let mut s: u32 = 0;
-    while s < n {
-        let mut j = item(tables, sections::TRANSFER_STARTS, s as usize);
-        let end = item(tables, sections::TRANSFER_STARTS, s as usize + 1);
-        while j < end {
-            if !transfer_ok(tables, s, j) {
-                return false;
-            }
-            j += 1;
-        }
-        s += 1;
-    }
-    true
+    (0..n).all(|s| transfers_of_ok(tables, s))
 }
 
 // Whether each walk leads to a stop.
@@ -48,12 +44,5 @@ pub fn walks_ok(tables: &[u32]) -> bool
 {
     let limit = size_of(tables, sections::STOP_LIST);
     let n = rows_of(tables, sections::WALKS, sections::WALK_WORDS);
-    let mut j: usize = 0;
-    while j < n {
-        if item(tables, sections::WALKS, j * sections::WALK_WORDS) >= limit {
-            return false;
-        }
-        j += 1;
-    }
-    true
+    (0..n).all(|j| item(tables, sections::WALKS, j * sections::WALK_WORDS) < limit)
 }

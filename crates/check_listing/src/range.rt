@@ -13,12 +13,5 @@ pub fn in_range(tables: &[u32], k: usize, limit: u32) -> bool
     ensures { result ≡ in_range tables.now k limit }
 {
     let n = size_of(tables, k);
-    let mut i: u32 = 0;
-    while i < n {
-        if item(tables, k, i as usize) >= limit {
-            return false;
-        }
-        i += 1;
-    }
-    true
+    (0..n).all(|i| item(tables, k, i as usize) < limit)
 }

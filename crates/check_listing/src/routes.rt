@@ -1,15 +1,16 @@
 // The rules for the stops and the trips of routes.
 ghost use Rattle.std.specs.Prelude.{◌≡◌, true, ◌<◌};
-ghost use Rattle.repository.specs.Sections.{size, routes, ROUTE_TRIPS};
+ghost use Rattle.repository.specs.Sections.{size, routes, ROUTE_TRIP_STARTS, ROUTE_TRIPS};
 ghost use Rattle.repository.specs.Laid.{Laid};
-ghost use Rattle.repository.specs.Listed.{route_stops, route_trips, time_each, trip_times};
+ghost use Rattle.repository.specs.Listed.{under, route_stops, route_trips, time_each, trip_times};
 
 use crate::once::marked_once;
 use crate::range::in_range;
 use repository::sections;
-use repository::words::{entries_of, item, row_count, size_of};
+use repository::words::{entries_of, item, row_count, rows_under, size_of};
 
 // Whether the stops of routes are in range.
+#[tactic(auto, unfolding(repository::specs::Listed::route_stops))]
 pub fn route_stops_ok(tables: &[u32]) -> bool
     requires { Laid tables.now }
     ensures { result ≡ route_stops tables.now }
@@ -19,19 +20,19 @@ pub fn route_stops_ok(tables: &[u32]) -> bool
 }
 
 // Whether each trip stands in exactly one route.
+#[tactic(auto, unfolding(repository::specs::Listed::route_trips))]
 pub fn route_trips_ok(tables: &[u32]) -> bool
     requires { Laid tables.now }
     ensures { result ≡ route_trips tables.now }
 {
     let n = entries_of(tables, sections::TIME_STARTS);
-    if !in_range(tables, sections::ROUTE_TRIPS, n) {
-        return false;
-    }
     let m = size_of(tables, sections::ROUTE_TRIPS);
     let mut marks = [0u64; 256];
-    marked_once(tables, sections::ROUTE_TRIPS, 0, m, &mut marks)
+    in_range(tables, sections::ROUTE_TRIPS, n)
+        && marked_once(tables, sections::ROUTE_TRIPS, 0..m, &mut marks)
 }
 
+#[tactic(auto, unfolding(repository::specs::Listed::time_each))]
 fn time_each_ok(tables: &[u32], r: u32, i: u32) -> bool
     requires laid { Laid tables.now }
     requires tables_value { route_trips tables.now ≡ true }
@@ -43,6 +44,16 @@ fn time_each_ok(tables: &[u32], r: u32, i: u32) -> bool
     row_count(tables, sections::TIME_STARTS, v) == row_count(tables, sections::ROUTE_STOP_STARTS, r)
 }
 
+// Whether each trip of route r has one stop time per position.
+fn times_of_ok(tables: &[u32], r: u32) -> bool
+    requires laid { Laid tables.now }
+    requires tables_value { route_trips tables.now ≡ true }
+    requires r_bound { r < routes tables.now }
+    ensures { result ≡ under tables.now ROUTE_TRIP_STARTS (time_each tables.now) r }
+{
+    rows_under(tables, sections::ROUTE_TRIP_STARTS, r).all(|i| time_each_ok(tables, r, i))
+}
+
 // Whether each trip has one stop time per position of its route.
 pub fn trip_times_ok(tables: &[u32]) -> bool
     requires laid { Laid tables.now }
@@ -50,17 +61,5 @@ pub fn trip_times_ok(tables: &[u32]) -> bool
     ensures { result ≡ trip_times tables.now }
 {
     let n = entries_of(tables, sections::ROUTE_STOP_STARTS);
-    let mut r: u32 = 0;
-    while r < n {
-        let mut i = item(tables, sections::ROUTE_TRIP_STARTS, r as usize);
-        let end = item(tables, sections::ROUTE_TRIP_STARTS, r as usize + 1);
-        while i < end {
-            if !time_each_ok(tables, r, i) {
-                return false;
-            }
-            i += 1;
-        }
-        r += 1;
-    }
-    true
+    (0..n).all(|r| times_of_ok(tables, r))
 }

@@ -5,8 +5,9 @@ ghost use Rattle.repository.specs.Laid.{Laid};
 ghost use Rattle.repository.specs.Listed.{standing, standings};
 
 use repository::sections;
-use repository::words::{entries_of, item};
+use repository::words::{entries_of, item, rows_under};
 
+#[tactic(auto, unfolding(repository::specs::Listed::standing))]
 fn standing_ok(tables: &[u32], v: u32) -> bool
     requires laid { Laid tables.now }
     requires v_bound { v < trips tables.now }
@@ -18,13 +19,8 @@ fn standing_ok(tables: &[u32], v: u32) -> bool
         return false;
     }
     let j = item(tables, sections::STANDING, at + sections::STANDING_PLACE);
-    if j < item(tables, sections::ROUTE_TRIP_STARTS, r as usize) {
-        return false;
-    }
-    if j >= item(tables, sections::ROUTE_TRIP_STARTS, r as usize + 1) {
-        return false;
-    }
-    item(tables, sections::ROUTE_TRIPS, j as usize) == v
+    let places = rows_under(tables, sections::ROUTE_TRIP_STARTS, r);
+    places.contains(&j) && item(tables, sections::ROUTE_TRIPS, j as usize) == v
 }
 
 // Whether each trip stands where its row says.
@@ -33,12 +29,5 @@ pub fn standings_ok(tables: &[u32]) -> bool
     ensures { result ≡ standings tables.now }
 {
     let n = entries_of(tables, sections::TIME_STARTS);
-    let mut v: u32 = 0;
-    while v < n {
-        if !standing_ok(tables, v) {
-            return false;
-        }
-        v += 1;
-    }
-    true
+    (0..n).all(|v| standing_ok(tables, v))
 }

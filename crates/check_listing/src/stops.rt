@@ -13,26 +13,17 @@ pub fn stop_list_ok(tables: &[u32]) -> bool
     ensures { result ≡ stop_list tables.now }
 {
     let n = size_of(tables, sections::STOP_LIST);
-    let mut s: u32 = 0;
-    while s < n {
-        if item(tables, sections::STOP_LIST, s as usize) != s {
-            return false;
-        }
-        s += 1;
-    }
-    true
+    (0..n).all(|s| item(tables, sections::STOP_LIST, s as usize) == s)
 }
 
+#[tactic(auto, unfolding(repository::specs::Listed::station))]
 fn station_ok(tables: &[u32], s: u32) -> bool
     requires laid { Laid tables.now }
     requires s_bound { s < stops tables.now }
     ensures { result ≡ station tables.now s }
 {
     let p = item(tables, sections::STATIONS, s as usize);
-    if p == repository::MAX {
-        return true;
-    }
-    p < size_of(tables, sections::STOP_LIST)
+    p == repository::MAX || p < size_of(tables, sections::STOP_LIST)
 }
 
 // Whether every stop has a station in range, or none.
@@ -41,12 +32,5 @@ pub fn stations_ok(tables: &[u32]) -> bool
     ensures { result ≡ stations tables.now }
 {
     let n = size_of(tables, sections::STOP_LIST);
-    let mut s: u32 = 0;
-    while s < n {
-        if !station_ok(tables, s) {
-            return false;
-        }
-        s += 1;
-    }
-    true
+    (0..n).all(|s| station_ok(tables, s))
 }

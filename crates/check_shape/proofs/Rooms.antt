@@ -4,10 +4,9 @@ use mathlib.Core.Path.{◌≡◌}
 use mathlib.Core.List.{List}
 use native.Mathlib.Omega.{arith}
 use lib.ListN.{length}
-use Rattle.repository.specs.Sections.{start, size, STOP_LIST, CHILD_STARTS, CALL_STARTS, TRANSFER_STARTS, WALK_STARTS}
-use Rattle.repository.specs.Sections.{ROUTE_STOP_STARTS, ROUTE_TRIP_STARTS, TIME_STARTS, AREA_STARTS, SECTIONS}
-use Rattle.repository.specs.Sections.{CALL_WORDS, TRANSFER_WORDS, WALK_WORDS, TIME_WORDS}
-use Rattle.check_shape.specs.Shape.{Headed, Roomy}
+use Rattle.repository.specs.Sections.{start, size}
+use Rattle.repository.specs.Sections.{SECTIONS}
+use Rattle.check_shape.specs.Shape.{Headed}
 
 module _ {w : List ℕ} (h : Headed w) where
   to_end : (d k : ℕ) → k + d ≡ SECTIONS → start w k ≤ length w
@@ -45,41 +44,9 @@ module _ {w : List ℕ} (h : Headed w) where
 
   -- the two ends of section k, as read
   module _ {k a b : ℕ} (g : k < SECTIONS) (ea : a ≡ start w k) (eb : b ≡ start w (k + 1)) where
-    pub end_after : a ≤ b
-    end_after = omega (arith, h.rise k g)
-
     pub size_is : b - a ≡ size w k
     unfolding size
     size_is = omega arith
 
     pub size_within : b - a ≤ length w
     size_within = omega (arith, within (k + 1) (omega arith))
-
--- what `starts_ok` asks of each starts section
-module _ {w : List ℕ} (h : Headed w) (r : Roomy w) where
-  module _ {s : ℕ} (e : s ≡ size w STOP_LIST) where
-    pub children_asked : Headed w × (CHILD_STARTS + 1 < SECTIONS × (s < size w CHILD_STARTS × 0 < 1))
-    children_asked = (h, (omega arith, (rw e r.child_room, omega arith)))
-
-    pub calls_asked : Headed w × (CALL_STARTS + 1 < SECTIONS × (s < size w CALL_STARTS × 0 < CALL_WORDS))
-    calls_asked = (h, (omega arith, (rw e r.call_room, omega arith)))
-
-    pub transfers_asked : Headed w × (TRANSFER_STARTS + 1 < SECTIONS × (s < size w TRANSFER_STARTS × 0 < TRANSFER_WORDS))
-    transfers_asked = (h, (omega arith, (rw e r.transfer_room, omega arith)))
-
-    pub walks_asked : Headed w × (WALK_STARTS + 1 < SECTIONS × (s < size w WALK_STARTS × 0 < WALK_WORDS))
-    walks_asked = (h, (omega arith, (rw e r.walk_room, omega arith)))
-
-  module _ {n : ℕ} (e : n ≡ size w ROUTE_STOP_STARTS - 1) where
-    pub stops_asked : Headed w × (ROUTE_STOP_STARTS + 1 < SECTIONS × (n < size w ROUTE_STOP_STARTS × 0 < 1))
-    stops_asked = (h, (omega arith, (rw e r.stop_room, omega arith)))
-
-    pub trips_asked : Headed w × (ROUTE_TRIP_STARTS + 1 < SECTIONS × (n < size w ROUTE_TRIP_STARTS × 0 < 1))
-    trips_asked = (h, (omega arith, (rw e r.trip_room, omega arith)))
-
-  pub times_asked : {n : ℕ} → n ≡ size w TIME_STARTS - 1
-      → Headed w × (TIME_STARTS + 1 < SECTIONS × (n < size w TIME_STARTS × 0 < TIME_WORDS))
-  times_asked e = (h, (omega arith, (rw e r.time_room, omega arith)))
-
-  pub areas_asked : {n : ℕ} → n ≡ size w AREA_STARTS - 1 → Headed w × (AREA_STARTS + 1 < SECTIONS × (n < size w AREA_STARTS × 0 < 1))
-  areas_asked e = (h, (omega arith, (rw e r.area_room, omega arith)))

@@ -1,6 +1,5 @@
 -- Laws that belong to no one function.
 pub mod Rooms
-pub mod Tests
 pub mod Shown
 pub mod Whole
 pub mod Examples

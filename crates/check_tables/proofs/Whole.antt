@@ -32,8 +32,8 @@ module _ (w : List ℕ) {b : Bool} where
   pub laid_known : b ≡ laid w → b ≡ true → Laid w
   laid_known e t = laid_shown (sym e ∙ t)
 
-  pub listed_known : {c : Bool} → b ≡ laid w → b ≡ true → c ≡ well_listed w → c ≡ true → Listed w
-  listed_known e t f u = listed_shown (laid_known e t) (sym f ∙ u)
+  pub lists_known : {c : Bool} → b ≡ laid w → b ≡ true → c ≡ well_listed w → c ≡ true → Listed w
+  lists_known e t f u = listed_shown (laid_known e t) (sym f ∙ u)
 
 -- the number, by the test that fails first
 module _ (w : List ℕ) {a : Bool} (ea : a ≡ laid w) where

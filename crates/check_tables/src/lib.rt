@@ -1,35 +1,34 @@
-// The table check: the lowest of the numbers 1 to 5 that applies, or 0. Each number is tested on tables that have no
-// lower one: the tests for 2 and 5 index freely on laid tables, and those for 3 and 4 on tables that are listed too.
+// The table check: the first of the refusals 1 to 5 that applies. Each is tested on tables that have no lower one: the tests
+// for 2 and 5 index freely on laid tables, and those for 3 and 4 on tables that are listed too.
 #![tactic(auto)]
 
 mod distances;
 
 ghost use Rattle.std.specs.Prelude.{◌≡◌};
+ghost use Rattle.model.specs.Refusal.{number_given};
 ghost use Rattle.repository.specs.Checked.{check_of};
 
-// The number of the check, for any words whatever.
-pub fn check(tables: &[u32]) -> u32
-    ensures { result ≡ check_of tables.now }
+use model::Refusal;
+
+// Why the tables are refused, if they are: for any words whatever.
+#[tactic(auto, using(crate::proofs::Whole::laid_known, crate::proofs::Whole::lists_known), unfolding(repository::specs::Checked::check_of))]
+pub fn check(tables: &[u32]) -> Result<(), Refusal>
+    ensures { number_given result ≡ check_of tables.now }
 {
-    let shaped = check_shape::shape_ok(tables);
-    if shaped {
-        let listed = check_listing::listing_ok(tables);
-        if listed {
-            let timed = check_times::times_ok(tables);
-            if timed {
-                let ordered = check_times::order_ok(tables);
-                if ordered {
-                    let measured = distances::distances_ok(tables);
-                    if measured {
-                        return 0;
-                    }
-                    return 5;
-                }
-                return 4;
-            }
-            return 3;
-        }
-        return 2;
+    if !check_shape::shape_ok(tables) {
+        return Err(Refusal::Shape);
     }
-    1
+    if !check_listing::listing_ok(tables) {
+        return Err(Refusal::Listing);
+    }
+    if !check_times::times_ok(tables) {
+        return Err(Refusal::Times);
+    }
+    if !check_times::order_ok(tables) {
+        return Err(Refusal::Order);
+    }
+    if !distances::distances_ok(tables) {
+        return Err(Refusal::Distances);
+    }
+    Ok(())
 }

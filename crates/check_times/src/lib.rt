@@ -73,25 +73,18 @@ pub fn times_ok(tables: &[u32]) -> bool
 {
     let m = repository::routes::route_count(tables);
     let mut ok = true;
-    let mut r: u32 = 0;
-    'all: while r < m {
+    'all: for r in 0..m {
         let end = repository::routes::route_len(tables, r);
         let count = repository::routes::trips_of_route(tables, r);
-        let mut p: u32 = 0;
-        while p < end {
-            let mut i: u32 = 0;
-            while i < count {
+        for p in 0..end {
+            for i in 0..count {
                 let good = time_ok(tables, r, p, i, end);
-                if good {
-                    i += 1;
-                } else {
+                if !good {
                     ok = false;
                     break 'all;
                 }
             }
-            p += 1;
         }
-        r += 1;
     }
     ok
 }
@@ -104,30 +97,23 @@ pub fn order_ok(tables: &[u32]) -> bool
 {
     let m = repository::routes::route_count(tables);
     let mut ok = true;
-    let mut r: u32 = 0;
-    'all: while r < m {
+    'all: for r in 0..m {
         let end = repository::routes::route_len(tables, r);
         let count = repository::routes::trips_of_route(tables, r);
-        let mut p: u32 = 0;
-        while p < end {
+        for p in 0..end {
             let mut arrival: u32 = 0;
             let mut departure: u32 = 0;
-            let mut i: u32 = 0;
-            while i < count {
+            for i in 0..count {
                 let t = stop_time(tables, r, p, i);
                 let good = (arrival <= t.arrival) & (departure <= t.departure);
-                if good {
-                    arrival = t.arrival;
-                    departure = t.departure;
-                    i += 1;
-                } else {
+                if !good {
                     ok = false;
                     break 'all;
                 }
+                arrival = t.arrival;
+                departure = t.departure;
             }
-            p += 1;
         }
-        r += 1;
     }
     ok
 }

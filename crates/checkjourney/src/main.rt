@@ -4,104 +4,53 @@
 
 ghost use Rattle.std.specs.Prelude.{◌≤◌, length};
 
-use handheld::Verdict;
-use input::Input;
-use network::{Loaded, Ready};
-use questions::{Asked, Question};
+use handheld::NoVerdict;
+use network::Ready;
+use questions::Question;
 use std::io;
 
+// The most bytes of a journey.
+const MOST: usize = 32_768;
+
 // Asks the judge, and tells the verdict.
-fn tell(
-    rt: HostRuntime,
-    tables: &[u32],
-    path: &[u8],
-    bytes: &[u8],
-    asked: Question,
-) -> io::Result<()>
+fn tell(rt: HostRuntime, ready: Ready<'_>, bytes: &[u8], asked: Question) -> io::Result<()>
     requires { length bytes.now ≤ 32_768 }
 {
     let mut text = [0u8; 16];
-    let q = asked.query;
-    let v = judge::judge(tables, bytes, q);
-    let n = verdict_line::write_line(v, &mut text);
+    let verdict = judge::judge(ready.tables, bytes, asked.query);
+    let n = verdict_line::write_line(verdict, &mut text);
     print::text(&rt, &text[..n])?;
-    if let Verdict::Refused(number) = v {
-        return refusing::print_meaning(&rt, tables, path, number, q, asked.midnight);
+    match verdict {
+        Err(NoVerdict::Refused(refusal)) => refusing::print_meaning(&rt, ready, refusal, asked),
+        _ => Ok(()),
     }
-    Ok(())
-}
-
-// The verdict on the first n bytes, unless they are too many.
-fn tell_first(
-    rt: HostRuntime,
-    tables: &[u32],
-    path: &[u8],
-    bytes: &[u8],
-    n: usize,
-    asked: Question,
-) -> io::Result<()> {
-    if 32768 < n {
-        return print::text(
-            &rt,
-            b"the input has more than 32768 bytes, and this program has no room for more: link the library (see README)\n",
-        );
-    }
-    if bytes.len() < n {
-        return Ok(());
-    }
-    tell(rt, tables, path, &bytes[..n], asked)
 }
 
 // The verdict on what is on standard input.
-fn tell_input(rt: HostRuntime, tables: &[u32], path: &[u8], asked: Question) -> io::Result<()> {
-    let mut bytes = [0u8; 32769];
-    let Input::Bytes(n) = input::read_input(&mut rt.stdin(), &mut bytes) else {
-        return print::text(&rt, b"the input cannot be read\n");
-    };
-    tell_first(rt, tables, path, &bytes, n, asked)
-}
-
-// The verdict by the tables that are ready; the argument that names their file is in `buffer`.
-fn tell_on(
-    rt: HostRuntime,
-    buffer: &[u8],
-    tables: &[u32],
-    ready: Ready,
-    asked: Question,
-) -> io::Result<()> {
-    let count = ready.count;
-    let from = ready.from;
-    let to = ready.to;
-    if tables.len() < count {
-        return Ok(());
+fn tell_input(rt: HostRuntime, ready: Ready<'_>, asked: Question) -> io::Result<()> {
+    let mut bytes = [0u8; MOST + 1];
+    match input::read_input(&mut rt.stdin(), &mut bytes) {
+        Ok(n) if n <= MOST => tell(rt, ready, &bytes[..n], asked),
+        Ok(_) => println!(rt;
+            "the input has more than {MOST} bytes, and this program has no room for more: link the library (see README)"
+        ),
+        Err(_) => println!(rt; "the input cannot be read"),
     }
-    if buffer.len() < to {
-        return Ok(());
-    }
-    if to < from {
-        return Ok(());
-    }
-    tell_input(rt, &tables[..count], &buffer[from..to], asked)
 }
 
 // The verdict by the tables that the query names.
 fn tell_asked(rt: HostRuntime, buffer: &mut [u8], asked: Question) -> io::Result<()> {
     let mut tables = [0u32; 6144];
-    let file = asked.file;
-    let Loaded::Tables(ready) = network::load(&rt, buffer, file, &mut tables)? else {
-        return Ok(());
-    };
-    tell_on(rt, buffer, &tables, ready, asked)
+    match network::load(&rt, buffer, asked.file, &mut tables)? {
+        Some(ready) => tell_input(rt, ready, asked),
+        None => Ok(()),
+    }
 }
 
 fn print_usage(rt: HostRuntime) -> io::Result<()> {
-    print::text(
-        &rt,
-        b"usage: checkjourney FROM TO depart|arrive MOMENT [walks:yes|walks:no] [tables:FILE] ",
-    )?;
-    print::text(
-        &rt,
-        b"[midnight:SECONDS] [mode:source|mode:rescan] [bytes]\n",
+    println!(rt;
+        "usage: checkjourney FROM TO depart|arrive MOMENT [walks:yes|walks:no] [tables:FILE] [midnight:SECONDS] \
+        [mode:source|mode:rescan] [bytes]"
     )
 }
 
@@ -110,8 +59,8 @@ fn main(rt: HostRuntime) -> io::Result<()> {
     if querying::asks_help(&rt, &mut buffer) {
         return print_usage(rt);
     }
-    let Asked::Question(a) = querying::read_query(&rt, &mut buffer)? else {
-        return print_usage(rt);
-    };
-    tell_asked(rt, &mut buffer, a)
+    match querying::read_query(&rt, &mut buffer)? {
+        Some(asked) => tell_asked(rt, &mut buffer, asked),
+        None => print_usage(rt),
+    }
 }

@@ -1,55 +1,37 @@
 // Reads lines `net w0 w1 ..`, the words of flat tables, and prints for each the number that the check gives them: 0 for accepted tables.
 #![tactic(auto)]
 
-ghost use Rattle.std.specs.Prelude.{◌≤◌, IfOk};
-
 use lines::Line;
 use std::io;
 
-// The number of the tables that are the first `count` words.
-fn number(words: &[u32], count: usize) -> u32 {
-    if words.len() < count {
-        return 1;
+// The name of a line of tables: the value of `net` is its last letter's.
+const NET: u64 = b't' as u64;
+
+// The number of the tables.
+fn number(tables: &[u32]) -> u32 {
+    match check_tables::check(tables) {
+        Ok(()) => 0,
+        Err(refusal) => u32::from(refusal),
     }
-    let first = 0;
-    check_tables::check(&words[first..count])
 }
 
-// Prints the number of a line's tables, once the line has ended. The value of `net` is its last letter's.
-fn answer(rt: HostRuntime, words: &[u32], l: Line) -> io::Result<()> {
-    let count = l.count;
-    if !l.ended {
+// Prints the number of a line's tables, once the line has ended.
+fn answer(rt: HostRuntime, words: &[u32], line: Line) -> io::Result<()> {
+    if !line.ended || line.name != Some(NET) {
         return Ok(());
     }
-    if l.name != 116 {
-        return Ok(());
+    match words.get(..line.count) {
+        Some(tables) if !line.bad => println!(rt; "{}", number(tables)),
+        _ => println!(rt; "no words"),
     }
-    if l.bad {
-        return println!(rt; "no words");
-    }
-    println!(rt; "{}", number(words, count))
-}
-
-// Goes on with one more byte.
-fn feed(rt: HostRuntime, words: &mut [u32], l: Line, b: u8) -> io::Result<Line>
-    requires { l.value ≤ 4294967296 }
-    ensures { IfOk result (λ m. m.value ≤ 4294967296) }
-{
-    let next = lines::step(words, l, b);
-    answer(rt, words, next)?;
-    Ok(next)
 }
 
 // Goes on with a block of bytes.
-fn feed_all(rt: HostRuntime, words: &mut [u32], l: Line, block: &[u8]) -> io::Result<Line>
-    requires { l.value ≤ 4294967296 }
-    ensures { IfOk result (λ m. m.value ≤ 4294967296) }
-{
-    let mut line = l;
-    let mut i = 0;
-    while i < block.len() {
-        line = feed(rt, words, line, block[i])?;
-        i += 1;
+fn feed_all(rt: HostRuntime, words: &mut [u32], line: Line, block: &[u8]) -> io::Result<Line> {
+    let mut line = line;
+    for b in block {
+        line = line.step(words, *b);
+        answer(rt, words, line)?;
     }
     Ok(line)
 }
@@ -58,7 +40,7 @@ fn feed_all(rt: HostRuntime, words: &mut [u32], l: Line, block: &[u8]) -> io::Re
 fn main(rt: HostRuntime) -> io::Result<()> {
     let mut words = [0u32; 8192];
     let mut block = [0u8; 4096];
-    let mut line = lines::new();
+    let mut line = Line::new();
     for _ in 0..u64::MAX {
         let got = input::read_full(&mut rt.stdin(), &mut block);
         if got == 0 {

@@ -3,6 +3,7 @@
 use Prim.Native.Nat.{ℕ, suc, ◌+◌, ◌≤◌, ◌<◌}
 use mathlib.Core.Path.{◌≡◌, refl, sym, ap, ◌∙◌}
 use mathlib.Core.Bool.{Bool, true, false, cond}
+use Rattle.std.specs.Prelude.{None, Some}
 use mathlib.Core.List.{List, [], ◌∷◌, ◌++◌}
 use native.Mathlib.Omega.{arith}
 use lib.ListN.{length, length-append}
@@ -11,8 +12,7 @@ use Rattle.csv_text.specs.Part.{part}
 use Rattle.csv_text.specs.Texts.{same_text}
 use Rattle.csv_text.specs.Fields.{field, fields}
 use Rattle.csv_text.specs.Read.{scan_of, Within}
-use Rattle.csv_text.specs.declared.Scanned.{Scanned}
-use Rattle.csv_text.specs.declared.Scanned.TheVariants.{Taken, Wrong}
+use Rattle.csv_text.specs.declared.TextField.{TextField}
 use Rattle.csv_text.proofs.Parts.{part_whole}
 use Rattle.columns.specs.declared.Column.{Column}
 use Rattle.columns.specs.declared.Column.TheVariants.{At, Absent, Twice}
@@ -87,29 +87,29 @@ pub found_start : {b : List ℕ} {a e : ℕ} {name : List ℕ} → a ≤ e → e
 unfolding column_of column_from
 found_start h k = record { texts = []; passed = passed_start h k; few = omega arith; number = refl; stands = refl }
 
-module _ {b : List ℕ} {a e : ℕ} {name : List ℕ} {i k : ℕ} {was : Column} (g : Found b a e name i k was)
-    {r : Scanned} (s : scan_of b e r ≡ field (part i e b)) where
-  pub column_wrong : r ≡ Wrong → Absent ≡ column_in name (fields (part a e b))
+module _ {b : List ℕ} {a e : ℕ} {name : List ℕ} {i k : ℕ} {was : Column} (g : Found b a e name i k was) where
+  pub column_wrong : scan_of b e None ≡ field (part i e b) → Absent ≡ column_in name (fields (part a e b))
   unfolding column_in
-  column_wrong v = ap (column_in name) (sym (passed_wrong g.passed s v))
+  column_wrong s = ap (column_in name) (sym (passed_wrong g.passed s))
 
-  module _ {f t n : ℕ} (v : r ≡ Taken f t n) {now : Column} (q : now ≡ cond (same_text (part f t b) name) (met_at was k) was) where
-    stands_more : now ≡ column_of name (g.texts ++ (part f t b ∷ []))
+  module _ (x : TextField) (s : scan_of b e (Some x) ≡ field (part i e b))
+      {now : Column} (q : now ≡ cond (same_text (part x.from x.to b) name) (met_at was k) was) where
+    stands_more : now ≡ column_of name (g.texts ++ (part x.from x.to b ∷ []))
     unfolding column_of
     stands_more =
         let z : k ≡ 0 + length g.texts = omega (arith, g.number) in
-        q ∙ rw (g.stands, z) (sym (column_more 0 name g.texts (part f t b)))
+        q ∙ rw (g.stands, z) (sym (column_more 0 name g.texts (part x.from x.to b)))
 
-    pub column_last : e ≤ n → now ≡ column_in name (fields (part a e b))
+    pub column_last : e ≤ x.next → now ≡ column_in name (fields (part a e b))
     unfolding column_in
-    column_last h = stands_more ∙ ap (column_in name) (sym (passed_last g.passed s v h))
+    column_last h = stands_more ∙ ap (column_in name) (sym (passed_last g.passed x s h))
 
-    pub found_on : Within b i e r → n < e → Found b a e name (n + 1) (k + 1) now
+    pub found_on : Within b i e (Some x) → x.next < e → Found b a e name (x.next + 1) (k + 1) now
     found_on u h =
         record {
-          texts = g.texts ++ (part f t b ∷ []);
-          passed = passed_on g.passed s v h;
-          few = omega (arith, g.few, next_behind b i e r u v);
-          number = omega (arith, g.number, length-append g.texts (part f t b ∷ []));
+          texts = g.texts ++ (part x.from x.to b ∷ []);
+          passed = passed_on g.passed x s h;
+          few = omega (arith, g.few, next_behind b i e x u);
+          number = omega (arith, g.number, length-append g.texts (part x.from x.to b ∷ []));
           stands = stands_more;
         }

@@ -3,7 +3,7 @@
 use Prim.Native.Nat.{ℕ, zero, suc, ◌+◌, ◌≤◌, ◌<◌}
 use mathlib.Core.Path.{◌≡◌, refl, sym, ap, ◌∙◌}
 use mathlib.Core.Bool.{Bool, true, false, cond}
-use mathlib.Core.Option.{some}
+use Rattle.std.specs.Prelude.{Option, None, Some}
 use mathlib.Core.List.{List, [], ◌∷◌, ◌++◌}
 use native.Mathlib.Omega.{arith}
 use lib.Dec.{eqb, eqb-zero-suc, eqb-suc-zero, eqb-suc-suc}
@@ -12,17 +12,13 @@ use lib.ListN.{length, get_or, length-append}
 use Rattle.csv_text.specs.Part.{part}
 use Rattle.csv_text.specs.Fields.{field, fields}
 use Rattle.csv_text.specs.Read.{scan_of, Within}
-use Rattle.csv_text.specs.declared.Scanned.{Scanned}
-use Rattle.csv_text.specs.declared.Scanned.TheVariants.{Taken}
-use Rattle.csv_text.specs.declared.Scanned.TheVariants.{Wrong as WrongField}
+use Rattle.csv_text.specs.declared.TextField.{TextField}
 use Rattle.csv_text.proofs.Parts.{part_none}
 use Rattle.columns.specs.declared.Span.{Span}
-use Rattle.columns.specs.declared.Wanted.{Wanted}
 use Rattle.columns.specs.declared.Picked.{Picked}
-use Rattle.columns.specs.declared.Picking.TheVariants.{Fields, Wrong}
-use Rattle.columns.specs.Picks.{Five, five_of, five_in, text_at, picked_in, Spanned, AllSpanned}
-use Rattle.columns.specs.Keeping.{span_from, kept_at, none_kept}
-use Rattle.columns.proofs.Passing.{Passed, passed_start, passed_wrong, passed_last, passed_on, text_ordered, text_inside, next_behind}
+use Rattle.columns.specs.Picks.{Five, five_of, five_in, text_at, wanted_span, picked_in, Spanned, AllSpanned}
+use Rattle.columns.specs.Keeping.{span_from, KeptAt, NoneKept}
+use Rattle.columns.proofs.Passing.{Passed, passed_start, passed_wrong, passed_last, passed_on, text_inside, next_behind}
 
 -- ---- one span
 module _ {place k : ℕ} (from to : ℕ) (old : Span) where
@@ -54,20 +50,16 @@ five_at : List ℕ → Picked → Five
 five_at b p =
     record {
       count = p.count;
-      one = text_at b p.one;
-      two = text_at b p.two;
-      three = text_at b p.three;
-      four = text_at b p.four;
-      five = text_at b p.five;
+      one = text_at b (wanted_span p 0);
+      two = text_at b (wanted_span p 1);
+      three = text_at b (wanted_span p 2);
+      four = text_at b (wanted_span p 3);
+      five = text_at b (wanted_span p 4);
     }
 
-told_five : (b : List ℕ) (p : Picked) → picked_in b (Fields p) ≡ some (five_at b p)
+told_five : (b : List ℕ) (p : Picked) → picked_in b (Some p) ≡ Some (five_at b p)
 unfolding picked_in five_at
 told_five b p = refl
-
-none_five : (w : Wanted) (b : List ℕ) (a : ℕ) → five_at b (none_kept a) ≡ five_of w []
-unfolding five_at none_kept five_of text_at
-none_five w b a = rw (part_none b a a (omega arith))
 
 one_kept : (b : List ℕ) (ts : List (List ℕ)) (f t k n : ℕ) (s : Span) → n ≡ length ts → text_at b s ≡ get_or ts k []
     → text_at b (cond (eqb k n) (span_from f t) s) ≡ get_or (ts ++ (part f t b ∷ [])) k []
@@ -76,78 +68,78 @@ one_kept b ts f t k n s e q =
     ∙ (let z : cond (eqb k n) (part f t b) (text_at b s) ≡ cond (eqb k (length ts)) (part f t b) (get_or ts k []) = rw (e, q) in z)
     ∙ sym (at_more ts (part f t b) k)
 
-more_five : (w : Wanted) (b : List ℕ) (ts : List (List ℕ)) (f t : ℕ) (p : Picked) → five_at b p ≡ five_of w ts
-    → five_at b (kept_at w f t p) ≡ five_of w (ts ++ (part f t b ∷ []))
-unfolding five_at kept_at five_of
-more_five w b ts f t p q =
-    let n : p.count ≡ length ts = ap (λ (x : Five). x.count) q in
-    let c : p.count + 1 ≡ length (ts ++ (part f t b ∷ [])) = omega (arith, length-append ts (part f t b ∷ [])) in
-    let t₁ = one_kept b ts f t w.one p.count p.one n (ap (λ (x : Five). x.one) q) in
-    let t₂ = one_kept b ts f t w.two p.count p.two n (ap (λ (x : Five). x.two) q) in
-    let t₃ = one_kept b ts f t w.three p.count p.three n (ap (λ (x : Five). x.three) q) in
-    let t₄ = one_kept b ts f t w.four p.count p.four n (ap (λ (x : Five). x.four) q) in
-    let t₅ = one_kept b ts f t w.five p.count p.five n (ap (λ (x : Five). x.five) q) in
-    λ i. record { count = c i; one = t₁ i; two = t₂ i; three = t₃ i; four = t₄ i; five = t₅ i }
-
-all_kept : (w : Wanted) (b : List ℕ) (f t : ℕ) (p : Picked) → f ≤ t → t ≤ length b → AllSpanned b (Fields p)
-    → AllSpanned b (Fields (kept_at w f t p))
-unfolding kept_at
-all_kept w b f t p h k s = (
-  span_kept b f t (eqb w.one p.count) p.one h k s.0,
-  span_kept b f t (eqb w.two p.count) p.two h k s.1,
-  span_kept b f t (eqb w.three p.count) p.three h k s.2,
-  span_kept b f t (eqb w.four p.count) p.four h k s.3,
-  span_kept b f t (eqb w.five p.count) p.five h k s.4,
-)
-
 -- ---- the loop: the next field begins at i, and p is kept
-pub record Gathered (w : Wanted) (b : List ℕ) (a e i : ℕ) (p : Picked) : Type 0 where
+pub record Gathered (w : List ℕ) (b : List ℕ) (a e i : ℕ) (p : Picked) : Type 0 where
   texts : List (List ℕ)
   pub passed : Passed b a e i texts
   pub few : p.count ≤ i
-  told : five_at b p ≡ five_of w texts
-  pub spans : AllSpanned b (Fields p)
+  counted : p.count ≡ length texts
+  told : (j : ℕ) → j < 5 → text_at b (wanted_span p j) ≡ get_or texts (get_or w j 0) []
+  spans : (j : ℕ) → j < 5 → Spanned b (wanted_span p j)
 
-none_spanned : (b : List ℕ) (a : ℕ) → a ≤ length b → AllSpanned b (Fields (none_kept a))
-unfolding none_kept
-none_spanned b a h = let s : Spanned b (span_from a a) = (omega arith, h) in (s, s, s, s, s)
-
-pub gathered_start : {w : Wanted} {b : List ℕ} {a e : ℕ} {p : Picked} → p ≡ none_kept a → a ≤ e → e ≤ length b → Gathered w b a e a p
-unfolding none_kept
+pub gathered_start : {w : List ℕ} {b : List ℕ} {a e : ℕ} {p : Picked} → NoneKept a p → a ≤ e → e ≤ length b → Gathered w b a e a p
+unfolding text_at
 gathered_start {w} {b} {a} {e} {p} q h k =
     record {
       texts = [];
       passed = passed_start h k;
-      few = let z : p.count ≡ 0 = ap (λ (x : Picked). x.count) q in omega arith;
-      told = ap (five_at b) q ∙ none_five w b a;
-      spans = rw q (none_spanned b a (omega arith));
+      few = omega (arith, q.count);
+      counted = q.count;
+      told = λ j l. rw (q.spans j l, part_none b a a (omega arith));
+      spans = λ j l. rw (q.spans j l) (omega arith, omega arith);
     }
 
-module _ {w : Wanted} {b : List ℕ} {a e i : ℕ} {p : Picked} (g : Gathered w b a e i p) {r : Scanned} (s : scan_of b e r ≡ field (part i e b)) where
-  pub pick_wrong : r ≡ WrongField → picked_in b Wrong ≡ five_in w (fields (part a e b))
+module _ {w : List ℕ} {b : List ℕ} {a e i : ℕ} {p : Picked} (g : Gathered w b a e i p) where
+  pub pick_wrong : {r : Option Picked} → r ≡ None → scan_of b e None ≡ field (part i e b) → picked_in b r ≡ five_in w (fields (part a e b))
   unfolding picked_in five_in
-  pick_wrong v = ap (five_in w) (sym (passed_wrong g.passed s v))
+  pick_wrong n s = rw n (ap (five_in w) (sym (passed_wrong g.passed s)))
 
-  module _ (u : Within b i e r) {f t n : ℕ} (v : r ≡ Taken f t n) {q : Picked} (k : q ≡ kept_at w f t p) where
-    told_more : five_at b q ≡ five_of w (g.texts ++ (part f t b ∷ []))
-    told_more = ap (five_at b) k ∙ more_five w b g.texts f t p g.told
+  module _ (x : TextField) (s : scan_of b e (Some x) ≡ field (part i e b)) {q : Picked} (k : KeptAt w x.from x.to p q) where
+    texts_more : List (List ℕ)
+    texts_more = g.texts ++ (part x.from x.to b ∷ [])
 
-    pub spans_more : AllSpanned b (Fields q)
-    spans_more =
-        rw k (all_kept w b f t p (text_ordered b i e r u v) (text_inside b i e r u v g.passed.inside) g.spans)
+    counted_more : q.count ≡ length texts_more
+    unfolding texts_more
+    counted_more = omega (arith, k.count, g.counted, length-append g.texts (part x.from x.to b ∷ []))
 
-    pub pick_last : e ≤ n → picked_in b (Fields q) ≡ five_in w (fields (part a e b))
-    unfolding five_in
+    told_more : (j : ℕ) → j < 5 → text_at b (wanted_span q j) ≡ get_or texts_more (get_or w j 0) []
+    unfolding texts_more
+    told_more j h =
+        ap (text_at b) (k.spans j h) ∙ one_kept b g.texts x.from x.to (get_or w j 0) p.count (wanted_span p j) g.counted (g.told j h)
+
+    five_more : five_at b q ≡ five_of w texts_more
+    unfolding five_at five_of
+    five_more =
+        let t₁ = told_more 0 (omega arith) in
+        let t₂ = told_more 1 (omega arith) in
+        let t₃ = told_more 2 (omega arith) in
+        let t₄ = told_more 3 (omega arith) in
+        let t₅ = told_more 4 (omega arith) in
+        λ i. record { count = counted_more i; one = t₁ i; two = t₂ i; three = t₃ i; four = t₄ i; five = t₅ i }
+
+    pub pick_last : e ≤ x.next → picked_in b (Some q) ≡ five_in w (fields (part a e b))
+    unfolding five_in texts_more
     pick_last h =
-        told_five b q ∙ ap some told_more ∙ ap (five_in w) (sym (passed_last g.passed s v h))
+        told_five b q ∙ ap Some five_more ∙ ap (five_in w) (sym (passed_last g.passed x s h))
 
-    pub gathered_on : n < e → Gathered w b a e (n + 1) q
-    unfolding kept_at
-    gathered_on h =
-        record {
-          texts = g.texts ++ (part f t b ∷ []);
-          passed = passed_on g.passed s v h;
-          few = let z : q.count ≡ p.count + 1 = ap (λ (x : Picked). x.count) k in omega (arith, g.few, next_behind b i e r u v);
-          told = told_more;
-          spans = spans_more;
-        }
+    module _ (u : Within b i e (Some x)) where
+      span_more : (j : ℕ) → j < 5 → Spanned b (wanted_span q j)
+      span_more j h =
+          rw (k.spans j h)
+          (span_kept b x.from x.to (eqb (get_or w j 0) p.count) (wanted_span p j) u.1 (text_inside b i e x u g.passed.inside) (g.spans j h))
+
+      pub spans_more : AllSpanned b (Some q)
+      spans_more =
+          (span_more 0 (omega arith), span_more 1 (omega arith), span_more 2 (omega arith), span_more 3 (omega arith), span_more 4 (omega arith))
+
+      pub gathered_on : x.next < e → Gathered w b a e (x.next + 1) q
+      unfolding texts_more
+      gathered_on h =
+          record {
+            texts = texts_more;
+            passed = passed_on g.passed x s h;
+            few = omega (arith, k.count, g.few, next_behind b i e x u);
+            counted = counted_more;
+            told = told_more;
+            spans = span_more;
+          }

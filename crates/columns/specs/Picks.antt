@@ -1,12 +1,10 @@
 -- The five fields that are wanted of a line, each by its place, and where a column stands in a header.
 use Rattle.std.specs.Prelude.{ℕ, suc, ◌≤◌, Bool, true, false, cond, List, [], ◌∷◌, length, get_or}
-use Rattle.std.proofs.Math.Option.{Option, none, some}
+use Rattle.std.specs.Prelude.{Option, None, Some}
 use Rattle.csv_text.specs.Part.{part}
 use Rattle.csv_text.specs.Texts.{same_text}
 use Rattle.columns.specs.declared.Span.{Span}
-use Rattle.columns.specs.declared.Wanted.{Wanted}
-use Rattle.columns.specs.declared.Picking.{Picking}
-use Rattle.columns.specs.declared.Picking.TheVariants.{Fields, Wrong}
+use Rattle.columns.specs.declared.Picked.{Picked}
 use Rattle.columns.specs.declared.Column.{Column}
 use Rattle.columns.specs.declared.Column.TheVariants.{At, Absent, Twice}
 
@@ -19,39 +17,52 @@ pub record Five : Type 0 where
   pub four : List ℕ
   pub five : List ℕ
 
-unfoldable pub five_of : Wanted → List (List ℕ) → Five
+unfoldable pub five_of : List ℕ → List (List ℕ) → Five
 five_of w ts =
     record {
       count = length ts;
-      one = get_or ts w.one [];
-      two = get_or ts w.two [];
-      three = get_or ts w.three [];
-      four = get_or ts w.four [];
-      five = get_or ts w.five [];
+      one = get_or ts (get_or w 0 0) [];
+      two = get_or ts (get_or w 1 0) [];
+      three = get_or ts (get_or w 2 0) [];
+      four = get_or ts (get_or w 3 0) [];
+      five = get_or ts (get_or w 4 0) [];
     }
 
 -- the five texts of a line, or none where a field of it is wrong
-unfoldable pub five_in : Wanted → Option (List (List ℕ)) → Option Five
-five_in w none = none
-five_in w (some ts) = some (five_of w ts)
+unfoldable pub five_in : List ℕ → Option (List (List ℕ)) → Option Five
+five_in w None = None
+five_in w (Some ts) = Some (five_of w ts)
 
 -- the text of a span
 unfoldable pub text_at : List ℕ → Span → List ℕ
 text_at b s = part s.from s.to b
 
+-- where the text of wanted field j stands
+abbrev pub wanted_span : Picked → ℕ → Span
+wanted_span p j = get_or p.spans j (record { from = 0; to = 0 })
+
 -- the texts that an answer is
-unfoldable pub picked_in : List ℕ → Picking → Option Five
-picked_in b (Fields p) =
-    some (record { count = p.count; one = text_at b p.one; two = text_at b p.two; three = text_at b p.three; four = text_at b p.four; five = text_at b p.five })
-picked_in b Wrong = none
+unfoldable pub picked_in : List ℕ → Option Picked → Option Five
+picked_in b (Some p) =
+    Some
+    (record {
+      count = p.count;
+      one = text_at b (wanted_span p 0);
+      two = text_at b (wanted_span p 1);
+      three = text_at b (wanted_span p 2);
+      four = text_at b (wanted_span p 3);
+      five = text_at b (wanted_span p 4);
+    })
+picked_in b None = None
 
 -- where it stands
 abbrev pub Spanned : List ℕ → Span → Type 0
 Spanned b s = (s.from ≤ s.to) × (s.to ≤ length b)
 
-abbrev pub AllSpanned : List ℕ → Picking → Type 0
-AllSpanned b (Fields p) = Spanned b p.one × Spanned b p.two × Spanned b p.three × Spanned b p.four × Spanned b p.five
-AllSpanned b Wrong = Unit {0}
+abbrev pub AllSpanned : List ℕ → Option Picked → Type 0
+AllSpanned b (Some p) =
+    Spanned b (wanted_span p 0) × Spanned b (wanted_span p 1) × Spanned b (wanted_span p 2) × Spanned b (wanted_span p 3) × Spanned b (wanted_span p 4)
+AllSpanned b None = Unit {0}
 
 -- ---- a header
 unfoldable pub is_named : List ℕ → List (List ℕ) → Bool
@@ -68,5 +79,5 @@ column_of name ts = column_from 0 name ts
 
 -- in a line whose fields are right; else nowhere
 unfoldable pub column_in : List ℕ → Option (List (List ℕ)) → Column
-column_in name none = Absent
-column_in name (some ts) = column_of name ts
+column_in name None = Absent
+column_in name (Some ts) = column_of name ts

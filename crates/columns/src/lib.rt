@@ -6,9 +6,7 @@ ghost use Rattle.csv_text.specs.Part.{part};
 ghost use Rattle.csv_text.specs.Texts.{same_text};
 ghost use Rattle.csv_text.specs.Fields.{fields};
 ghost use Rattle.columns.specs.Picks.{five_in, picked_in, AllSpanned, column_in};
-ghost use Rattle.columns.specs.Keeping.{span_from, kept_at, none_kept, met_at};
-
-use csv_text::Scanned;
+ghost use Rattle.columns.specs.Keeping.{span_from, KeptAt, NoneKept, met_at};
 
 // Where a text stands: from `from` up to below `to`.
 #[derive(Clone, Copy)]
@@ -17,34 +15,14 @@ pub struct Span {
     pub to: usize,
 }
 
-// The places of the fields that are wanted. Where a line has no field at a place, the text is empty.
-#[derive(Clone, Copy)]
-pub struct Wanted {
-    pub one: usize,
-    pub two: usize,
-    pub three: usize,
-    pub four: usize,
-    pub five: usize,
-}
-
-// How many fields a line has, and where the texts of the wanted ones stand.
+// How many fields a line has, and where the texts of the five wanted ones stand. Where it has no field at a place, the text is empty.
 #[derive(Clone, Copy)]
 pub struct Picked {
     pub count: usize,
-    pub one: Span,
-    pub two: Span,
-    pub three: Span,
-    pub four: Span,
-    pub five: Span,
+    pub spans: [Span; 5],
 }
 
-#[derive(Clone, Copy)]
-pub enum Picking {
-    Fields(Picked),
-    Wrong,
-}
-
-// Where a column stands in a header.
+// Where a column stands in a header. Stays an enum of its own: a Result of an Option would say its three cases in two layers.
 #[derive(Clone, Copy)]
 pub enum Column {
     At(usize),
@@ -56,49 +34,37 @@ pub enum Column {
 fn keep(place: usize, k: usize, from: usize, to: usize, old: Span) -> Span
     ensures { result ≡ cond (eqb place k) (span_from from to) old }
 {
-    if place == k {
-        return Span { from: from, to: to };
-    }
-    old
+    if place == k { Span { from, to } } else { old }
 }
 
 // One field more: it is kept where it is wanted.
-fn kept(w: Wanted, from: usize, to: usize, old: Picked) -> Picked
+fn kept(w: [usize; 5], from: usize, to: usize, old: Picked) -> Picked
     requires { old.count < 18446744073709551615 }
-    ensures { result ≡ kept_at w from to old }
+    ensures { KeptAt w from to old result }
 {
     let k = old.count;
-    let one = old.one;
-    let two = old.two;
-    let three = old.three;
-    let four = old.four;
-    let five = old.five;
+    let mut spans = old.spans;
+    for j in 0..5 {
+        spans[j] = keep(w[j], k, from, to, spans[j]);
+    }
     Picked {
         count: k + 1,
-        one: keep(w.one, k, from, to, one),
-        two: keep(w.two, k, from, to, two),
-        three: keep(w.three, k, from, to, three),
-        four: keep(w.four, k, from, to, four),
-        five: keep(w.five, k, from, to, five),
+        spans,
     }
 }
 
 // No field yet: each text is empty.
 fn nothing(a: usize) -> Picked
-    ensures { result ≡ none_kept a }
+    ensures { NoneKept a result }
 {
     Picked {
         count: 0,
-        one: Span { from: a, to: a },
-        two: Span { from: a, to: a },
-        three: Span { from: a, to: a },
-        four: Span { from: a, to: a },
-        five: Span { from: a, to: a },
+        spans: [Span { from: a, to: a }; 5],
     }
 }
 
-// The wanted fields of the line from a up to below e.
-pub fn pick(bytes: &[u8], a: usize, e: usize, w: Wanted) -> Picking
+// The fields of the line from a up to below e that stand at the wanted places.
+pub fn pick(bytes: &[u8], a: usize, e: usize, w: [usize; 5]) -> Option<Picked>
     requires a_le_e { a ≤ e }
     requires e_in_bounds { e ≤ length bytes.now }
     ensures result_value { picked_in bytes.now result ≡ five_in w (fields (part a e bytes.now)) }
@@ -106,22 +72,14 @@ pub fn pick(bytes: &[u8], a: usize, e: usize, w: Wanted) -> Picking
 {
     let mut i = a;
     let mut p = nothing(a);
+    // Stays a loop: each field says where the next one begins.
     loop {
-        let found = csv_text::field(bytes, i, e);
-        match found {
-            Scanned::Taken {
-                from: f,
-                to: t,
-                next: n,
-            } => {
-                p = kept(w, f, t, p);
-                if e <= n {
-                    return Picking::Fields(p);
-                }
-                i = n + 1;
-            }
-            Scanned::Wrong => return Picking::Wrong,
+        let field = csv_text::field(bytes, i, e)?;
+        p = kept(w, field.from, field.to, p);
+        if e <= field.next {
+            return Some(p);
         }
+        i = field.next + 1;
     }
 }
 
@@ -130,9 +88,9 @@ fn met(found: Column, k: usize) -> Column
     ensures { result ≡ met_at found k }
 {
     match found {
-        Column::At(i) => return Column::Twice,
-        Column::Absent => return Column::At(k),
-        Column::Twice => return Column::Twice,
+        Column::Absent => Column::At(k),
+        Column::At(_) => Column::Twice,
+        Column::Twice => Column::Twice,
     }
 }
 
@@ -142,9 +100,10 @@ fn seen(bytes: &[u8], f: usize, t: usize, name: &[u8], found: Column, k: usize) 
     ensures { result ≡ cond (same_text (part f t bytes.now) name.now) (met_at found k) found }
 {
     if csv_text::same(bytes, f, t, name, 0, name.len()) {
-        return met(found, k);
+        met(found, k)
+    } else {
+        found
     }
-    found
 }
 
 // Where the column of this name stands in the header from a up to below e.
@@ -156,22 +115,16 @@ pub fn find_column(bytes: &[u8], a: usize, e: usize, name: &[u8]) -> Column
     let mut i = a;
     let mut k = 0;
     let mut was = Column::Absent;
+    // Stays a loop, as above.
     loop {
-        let found = csv_text::field(bytes, i, e);
-        match found {
-            Scanned::Taken {
-                from: f,
-                to: t,
-                next: n,
-            } => {
-                was = seen(bytes, f, t, name, was, k);
-                if e <= n {
-                    return was;
-                }
-                i = n + 1;
-                k += 1;
-            }
-            Scanned::Wrong => return Column::Absent,
+        let Some(field) = csv_text::field(bytes, i, e) else {
+            return Column::Absent;
+        };
+        was = seen(bytes, field.from, field.to, name, was, k);
+        if e <= field.next {
+            return was;
         }
+        i = field.next + 1;
+        k += 1;
     }
 }

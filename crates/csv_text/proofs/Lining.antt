@@ -42,21 +42,22 @@ module _ {b : List ℕ} {a i : ℕ} (s : Seeking b a i) where
       let q : line_of (drop i b) ≡ [] = rw (drop-cons b i 0 h, eq-eqb (get_or b i 0) 10 x) in
       sym (append-nil (part a i b)) ∙ ap (λ (t : List ℕ). part a i b ++ t) (sym q) ∙ s.rest
 
-  pub seeking_end : length b ≤ i → part a i b ≡ line_of (drop a b)
+  pub seeking_end : length b ≤ i → part a (length b) b ≡ line_of (drop a b)
   unfolding line_of
   seeking_end h =
+      let e : length b ≡ i = omega (arith, s.high) in
       let q : line_of (drop i b) ≡ [] = rw (drop_of_length-le b h) in
-      sym (append-nil (part a i b)) ∙ ap (λ (t : List ℕ). part a i b ++ t) (sym q) ∙ s.rest
+      rw e (sym (append-nil (part a i b)) ∙ ap (λ (t : List ℕ). part a i b ++ t) (sym q) ∙ s.rest)
 
   pub behind_found : i < length b → get_or b i 0 ≡ 10 → after_line (drop a b) ≡ drop (i + 1) b
   unfolding after_line
   behind_found h x = sym s.left ∙ rw (drop-cons b i 0 h, eq-eqb (get_or b i 0) 10 x, add-one)
 
-  pub behind_end : length b ≤ i → after_line (drop a b) ≡ drop (i + 1) b
+  pub behind_end : length b ≤ i → after_line (drop a b) ≡ drop (length b + 1) b
   unfolding after_line
   behind_end h =
-      let n : length b ≤ i + 1 = omega arith in
-      let e : drop (i + 1) b ≡ [] = drop_of_length-le b n in
+      let n : length b ≤ length b + 1 = omega arith in
+      let e : drop (length b + 1) b ≡ [] = drop_of_length-le b n in
       sym s.left ∙ rw (drop_of_length-le b h, e)
 
 -- ---- the carriage return
@@ -68,14 +69,13 @@ module _ (b : List ℕ) (a e : ℕ) (k : e ≤ length b) where
       let j : a + (e - 1 - a) ≡ e - 1 = omega arith in
       rw (i, part_at b a e (e - 1 - a) (omega arith) k, j)
 
-  pub text_return : {t : ℕ} → a < e → t ≡ e - 1 → get_or b t 0 ≡ 13 → part a t b ≡ trimmed (part a e b)
+  pub text_return : a < e → get_or b (e - 1) 0 ≡ 13 → part a (e - 1) b ≡ trimmed (part a e b)
   unfolding trimmed
-  text_return {t} h q x =
+  text_return h x =
       let z = part_length b a e (omega arith) k in
-      let y : get_or b (e - 1) 0 ≡ 13 = rw q at x in
-      let c = eq-eqb (get_or (part a e b) (length (part a e b) - 1) 0) 13 (last_is h ∙ y) in
-      let i : length (part a e b) - 1 ≡ t - a = omega arith in
-      rw (c, i) (part_take b a e t (omega arith) (omega arith))
+      let c = eq-eqb (get_or (part a e b) (length (part a e b) - 1) 0) 13 (last_is h ∙ x) in
+      let i : length (part a e b) - 1 ≡ e - 1 - a = omega arith in
+      rw (c, i) (part_take b a e (e - 1) (omega arith) (omega arith))
 
   pub text_whole : a < e → (get_or b (e - 1) 0 ≡ 13 → ⊥) → part a e b ≡ trimmed (part a e b)
   unfolding trimmed

@@ -9,8 +9,8 @@ use lib.ListN.{length, get_or}
 use borrow.Author.Tests.{eq-eqb, ne_eqb}
 use Rattle.csv_text.specs.Part.{part}
 use Rattle.csv_text.specs.Fields.{Scan, taken, wrong, joined, plain, quoted, field}
-use Rattle.csv_text.specs.declared.Scanned.{Scanned}
-use Rattle.csv_text.specs.declared.Scanned.TheVariants.{Taken, Wrong}
+use Rattle.std.specs.Prelude.{Option, None, Some}
+use Rattle.csv_text.specs.declared.TextField.{TextField}
 use Rattle.csv_text.specs.Read.{scan_of, Within}
 use Rattle.csv_text.proofs.Parts.{part_step, part_none, part_more}
 
@@ -55,11 +55,11 @@ module _ {f : List ℕ → Scan} {b : List ℕ} {a e i : ℕ} (g : Going f b a e
       }
 
   -- the end of the text
-  close : (n : ℕ) → f (part i e b) ≡ taken [] (part n e b) → scan_of b e (Taken a i n) ≡ f (part a e b)
+  close : (n : ℕ) → f (part i e b) ≡ taken [] (part n e b) → scan_of b e (Some (record { from = a; to = i; next = n })) ≡ f (part a e b)
   unfolding scan_of led
   close n q = ap (λ (t : List ℕ). taken t (part n e b)) (sym (append-nil (part a i b))) ∙ ap (led (part a i b)) (sym q) ∙ g.rest
 
-  fail : f (part i e b) ≡ wrong → scan_of b e Wrong ≡ f (part a e b)
+  fail : f (part i e b) ≡ wrong → scan_of b e None ≡ f (part a e b)
   unfolding scan_of led
   fail q = ap (led (part a i b)) (sym q) ∙ g.rest
 
@@ -70,17 +70,21 @@ module _ {b : List ℕ} {a e i : ℕ} (g : Going plain b a e i) where
   plain_on h x y =
       step g h (rw (part_step b i e h g.inside, ne_eqb (get_or b i 0) 44 x, ne_eqb (get_or b i 0) 34 y))
 
-  pub plain_comma : i < e → get_or b i 0 ≡ 44 → scan_of b e (Taken a i i) ≡ plain (part a e b)
+  pub plain_comma : i < e → get_or b i 0 ≡ 44 → scan_of b e (Some (record { from = a; to = i; next = i })) ≡ plain (part a e b)
   unfolding plain
   plain_comma h x = close g i (rw (part_step b i e h g.inside, eq-eqb (get_or b i 0) 44 x))
 
-  pub plain_quote : i < e → (get_or b i 0 ≡ 44 → ⊥) → get_or b i 0 ≡ 34 → scan_of b e Wrong ≡ plain (part a e b)
+  pub plain_quote : i < e → get_or b i 0 ≡ 34 → scan_of b e None ≡ plain (part a e b)
   unfolding plain
-  plain_quote h x y = fail g (rw (part_step b i e h g.inside, ne_eqb (get_or b i 0) 44 x, eq-eqb (get_or b i 0) 34 y))
+  plain_quote h y =
+      let x : get_or b i 0 ≡ 44 → ⊥ = λ z. absurd (omega arith) in
+      fail g (rw (part_step b i e h g.inside, ne_eqb (get_or b i 0) 44 x, eq-eqb (get_or b i 0) 34 y))
 
-  pub plain_end : e ≤ i → scan_of b e (Taken a i i) ≡ plain (part a e b)
+  pub plain_end : e ≤ i → scan_of b e (Some (record { from = a; to = e; next = e })) ≡ plain (part a e b)
   unfolding plain
-  plain_end h = close g i (rw (part_none b i e h))
+  plain_end h =
+      let l : i ≡ e = omega (arith, g.high) in
+      rw l at (close g i (rw (part_none b i e h)))
 
 -- ---- a field between quotes
 module _ {b : List ℕ} {a e i : ℕ} (g : Going (quoted false) b a e i) where
@@ -88,7 +92,7 @@ module _ {b : List ℕ} {a e i : ℕ} (g : Going (quoted false) b a e i) where
   unfolding quoted
   quoted_on h x = step g h (rw (part_step b i e h g.inside, ne_eqb (get_or b i 0) 34 x))
 
-  pub quoted_open : e ≤ i → scan_of b e Wrong ≡ quoted false (part a e b)
+  pub quoted_open : e ≤ i → scan_of b e None ≡ quoted false (part a e b)
   unfolding quoted
   quoted_open h = fail g (rw (part_none b i e h))
 
@@ -97,15 +101,15 @@ module _ {b : List ℕ} {a e i : ℕ} (g : Going (quoted false) b a e i) where
     unfolding quoted
     here = rw (part_step b i e h g.inside, eq-eqb (get_or b i 0) 34 x, c)
 
-    pub quoted_last : e ≤ n → scan_of b e (Taken a i n) ≡ quoted false (part a e b)
+    pub quoted_last : e ≤ n → scan_of b e (Some (record { from = a; to = i; next = n })) ≡ quoted false (part a e b)
     unfolding quoted
     quoted_last k = close g n (here ∙ rw (part_none b n e k))
 
-    pub quoted_comma : n < e → get_or b n 0 ≡ 44 → scan_of b e (Taken a i n) ≡ quoted false (part a e b)
+    pub quoted_comma : n < e → get_or b n 0 ≡ 44 → scan_of b e (Some (record { from = a; to = i; next = n })) ≡ quoted false (part a e b)
     unfolding quoted
     quoted_comma k y = close g n (here ∙ rw (part_step b n e k g.inside, eq-eqb (get_or b n 0) 44 y))
 
-    pub quoted_wrong : n < e → (get_or b n 0 ≡ 44 → ⊥) → (get_or b n 0 ≡ 34 → ⊥) → scan_of b e Wrong ≡ quoted false (part a e b)
+    pub quoted_wrong : n < e → (get_or b n 0 ≡ 44 → ⊥) → (get_or b n 0 ≡ 34 → ⊥) → scan_of b e None ≡ quoted false (part a e b)
     unfolding quoted
     quoted_wrong k y z = fail g (here ∙ rw (part_step b n e k g.inside, ne_eqb (get_or b n 0) 44 y, ne_eqb (get_or b n 0) 34 z))
 
@@ -149,6 +153,6 @@ module _ (b : List ℕ) (a e : ℕ) (k : e ≤ length b) where
   unfolding field plain
   field_empty h q = q ∙ rw (part_none b a e h)
 
-pub within_wider : (b : List ℕ) (a e : ℕ) (r : Scanned) → Within b (a + 1) e r → Within b a e r
-within_wider b a e (Taken f t n) h = let l = h.0 in (omega arith, h.1, h.2, h.3, h.4)
-within_wider b a e Wrong h = tt
+pub within_wider : (b : List ℕ) (a e : ℕ) (r : Option TextField) → Within b (a + 1) e r → Within b a e r
+within_wider b a e (Some f) h = let l = h.0 in (omega arith, h.1, h.2, h.3, h.4)
+within_wider b a e None h = tt

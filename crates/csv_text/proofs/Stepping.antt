@@ -3,7 +3,7 @@
 use Prim.Native.Nat.{ℕ, zero, suc, ◌+◌, ◌-◌, ◌≤◌, ◌<◌}
 use mathlib.Core.Path.{◌≡◌, refl, sym, ap, ◌∙◌}
 use mathlib.Core.Bool.{Bool, true, false}
-use mathlib.Core.Option.{none, some}
+use Rattle.std.specs.Prelude.{None, Some}
 use mathlib.Core.List.{List, [], ◌∷◌}
 use native.Mathlib.Omega.{arith}
 use lib.ListN.{length, drop, length-drop}
@@ -122,11 +122,11 @@ rest_less : (l t r : List ℕ) → field l ≡ taken t r → length r ≤ length
 unfolding behind
 rest_less l t r e = rw e at (field_less l)
 
-from_wrong : (f : ℕ) (l : List ℕ) → field l ≡ wrong → fields_from (suc f) l ≡ none
+from_wrong : (f : ℕ) (l : List ℕ) → field l ≡ wrong → fields_from (suc f) l ≡ None
 unfolding fields_from
 from_wrong f l e = rw (e, fields_from)
 
-from_last : (f : ℕ) (l t : List ℕ) → field l ≡ taken t [] → fields_from (suc f) l ≡ some (t ∷ [])
+from_last : (f : ℕ) (l t : List ℕ) → field l ≡ taken t [] → fields_from (suc f) l ≡ Some (t ∷ [])
 unfolding fields_from
 from_last f l t e = rw (e, fields_from)
 
@@ -134,11 +134,11 @@ from_more : (f : ℕ) (l t : List ℕ) (c : ℕ) (s : List ℕ) → field l ≡ 
 unfolding fields_from
 from_more f l t c s e = rw (e, fields_from)
 
-pub fields_wrong : (l : List ℕ) → field l ≡ wrong → fields l ≡ none
+pub fields_wrong : (l : List ℕ) → field l ≡ wrong → fields l ≡ None
 unfolding fields
 fields_wrong l e = from_wrong (length l) l e
 
-pub fields_last : (l t : List ℕ) → field l ≡ taken t [] → fields l ≡ some (t ∷ [])
+pub fields_last : (l t : List ℕ) → field l ≡ taken t [] → fields l ≡ Some (t ∷ [])
 unfolding fields
 fields_last l t e = from_last (length l) l t e
 

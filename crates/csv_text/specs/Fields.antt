@@ -2,7 +2,7 @@
 -- what stands between is its text, a doubled quote kept as it stands: two fields have the same text exactly where they stand for the same.
 -- Any other field ends at a comma or with the line, and has no quote in it.
 use Rattle.std.specs.Prelude.{ℕ, zero, suc, Bool, true, false, cond, List, [], ◌∷◌, eqb, length}
-use Rattle.std.proofs.Math.Option.{Option, none, some}
+use Rattle.std.specs.Prelude.{Option, None, Some}
 
 -- a field's text and what stands behind it, or no field
 pub data Scan : Type 0 where
@@ -30,14 +30,14 @@ field (x ∷ b) = cond (eqb x 34) (quoted false b) (plain (x ∷ b))
 
 -- one more field before the others
 unfoldable pub with_field : List ℕ → Option (List (List ℕ)) → Option (List (List ℕ))
-with_field t none = none
-with_field t (some ts) = some (t ∷ ts)
+with_field t None = None
+with_field t (Some ts) = Some (t ∷ ts)
 
 -- behind a field stands nothing, or a comma and the next; a field takes its comma, so one more field than bytes are enough
 unfoldable pub fields_from : ℕ → List ℕ → Option (List (List ℕ))
-fields_from zero l = none
+fields_from zero l = None
 fields_from (suc fuel) l =
-    elim (field l) [ wrong ↦ none | taken t r ↦ elim r [ [] ↦ some (t ∷ []) | c ∷ s ↦ with_field t (fields_from fuel s) ] ]
+    elim (field l) [ wrong ↦ None | taken t r ↦ elim r [ [] ↦ Some (t ∷ []) | c ∷ s ↦ with_field t (fields_from fuel s) ] ]
 
 unfoldable pub fields : List ℕ → Option (List (List ℕ))
 fields l = fields_from (suc (length l)) l

@@ -10,9 +10,10 @@ ghost use Rattle.csv_text.specs.Read.{scan_of, Within, LineAt};
 
 // A field of a line: its text stands from `from` up to below `to`, and `next` is where a comma or the line's end follows.
 #[derive(Clone, Copy)]
-pub enum Scanned {
-    Taken { from: usize, to: usize, next: usize },
-    Wrong,
+pub struct TextField {
+    pub from: usize,
+    pub to: usize,
+    pub next: usize,
 }
 
 // A line: its text ends before `end`, and the next line begins at `next`.
@@ -29,14 +30,12 @@ fn line_end(bytes: &[u8], a: usize) -> usize
     ensures lower_bound { (a ≤ result) × (result ≤ length bytes.now) }
     ensures bytes_value_2 { after_line (drop a bytes.now) ≡ drop (result + 1) bytes.now }
 {
-    let mut i = a;
-    while i < bytes.len() {
-        if bytes[i] == 10 {
+    for i in a..bytes.len() {
+        if bytes[i] == b'\n' {
             return i;
         }
-        i += 1;
     }
-    i
+    bytes.len()
 }
 
 // Where the text of a line ends that stands from a up to below e: before a carriage return.
@@ -46,12 +45,8 @@ fn text_end(bytes: &[u8], a: usize, e: usize) -> usize
     ensures bytes_value { part a result bytes.now ≡ trimmed (part a e bytes.now) }
     ensures lower_bound { (a ≤ result) × (result ≤ e) }
 {
-    if a < e {
-        let t = e - 1;
-        if bytes[t] == 13 {
-            return t;
-        }
-        return e;
+    if a < e && bytes[e - 1] == b'\r' {
+        return e - 1;
     }
     e
 }
@@ -62,91 +57,79 @@ pub fn line(bytes: &[u8], a: usize) -> TextLine
     ensures { LineAt bytes.now a result }
 {
     let e = line_end(bytes, a);
-    let t = text_end(bytes, a, e);
     TextLine {
-        end: t,
+        end: text_end(bytes, a, e),
         next: e + 1,
     }
 }
 
 // The field that begins at a, which is no quote, in a line that ends at e.
-fn plain_field(bytes: &[u8], a: usize, e: usize) -> Scanned
+fn plain_field(bytes: &[u8], a: usize, e: usize) -> Option<TextField>
     requires a_le_e { a ≤ e }
     requires e_in_bounds { e ≤ length bytes.now }
     ensures result_value { scan_of bytes.now e result ≡ plain (part a e bytes.now) }
     ensures within { Within bytes.now a e result }
 {
-    let mut i = a;
-    while i < e {
-        if bytes[i] == 44 {
-            return Scanned::Taken {
+    for i in a..e {
+        match bytes[i] {
+            b',' => return Some(TextField {
                 from: a,
                 to: i,
                 next: i,
-            };
+            }),
+            b'"' => return None,
+            _ => {}
         }
-        if bytes[i] == 34 {
-            return Scanned::Wrong;
-        }
-        i += 1;
     }
-    Scanned::Taken {
+    Some(TextField {
         from: a,
-        to: i,
-        next: i,
-    }
+        to: e,
+        next: e,
+    })
 }
 
 // The field whose text begins at a, behind its opening quote.
-fn quoted_field(bytes: &[u8], a: usize, e: usize) -> Scanned
+fn quoted_field(bytes: &[u8], a: usize, e: usize) -> Option<TextField>
     requires a_le_e { a ≤ e }
     requires e_in_bounds { e ≤ length bytes.now }
     ensures result_value { scan_of bytes.now e result ≡ quoted false (part a e bytes.now) }
     ensures within { Within bytes.now a e result }
 {
+    // Stays a while: a doubled quote takes two bytes, which no range steps over.
     let mut i = a;
     while i < e {
-        if bytes[i] != 34 {
+        if bytes[i] != b'"' {
             i += 1;
             continue;
         }
         let n = i + 1;
-        if e <= n {
-            return Scanned::Taken {
+        if e <= n || bytes[n] == b',' {
+            return Some(TextField {
                 from: a,
                 to: i,
                 next: n,
-            };
+            });
         }
-        if bytes[n] == 44 {
-            return Scanned::Taken {
-                from: a,
-                to: i,
-                next: n,
-            };
-        }
-        if bytes[n] != 34 {
-            return Scanned::Wrong;
+        if bytes[n] != b'"' {
+            return None;
         }
         i += 2;
     }
-    Scanned::Wrong
+    None
 }
 
 // The field that begins at a.
-pub fn field(bytes: &[u8], a: usize, e: usize) -> Scanned
+pub fn field(bytes: &[u8], a: usize, e: usize) -> Option<TextField>
     requires a_le_e { a ≤ e }
     requires e_in_bounds { e ≤ length bytes.now }
     ensures result_value { scan_of bytes.now e result ≡ field_in (part a e bytes.now) }
     ensures within { Within bytes.now a e result }
 {
-    if a < e {
-        if bytes[a] == 34 {
-            return quoted_field(bytes, a + 1, e);
-        }
-        return plain_field(bytes, a, e);
+    if a < e && bytes[a] == b'"' {
+        quoted_field(bytes, a + 1, e)
+    } else {
+        plain_field(bytes, a, e)
     }
-    plain_field(bytes, a, e)
 }
 
 // Whether the text from a up to below e of one slice is the one from s up to below t of the other.
@@ -155,17 +138,5 @@ pub fn same(one: &[u8], a: usize, e: usize, other: &[u8], s: usize, t: usize) ->
     requires s_le_t { (s ≤ t) × (t ≤ length other.now) }
     ensures { result ≡ same_text (part a e one.now) (part s t other.now) }
 {
-    let mut i = a;
-    let mut j = s;
-    while i < e {
-        if t <= j {
-            return false;
-        }
-        if one[i] != other[j] {
-            return false;
-        }
-        i += 1;
-        j += 1;
-    }
-    t <= j
+    one[a..e] == other[s..t]
 }

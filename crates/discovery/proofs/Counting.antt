@@ -7,6 +7,7 @@ use native.Mathlib.Omega.{arith}
 use native.Mathlib.Nat.{add-zero, add-suc, suc-add}
 use lib.ListN.{length, get_or, set, drop, length-append, drop_of_length-le}
 use lib.Seq.{sets}
+use mir.Val.{bool_byte}
 use Rattle.base.proofs.Choice.{split}
 use Rattle.model.specs.Tables.{Net}
 use Rattle.model.specs.Places.{served_of}
@@ -16,19 +17,22 @@ use Rattle.discovery.specs.Served.{puts, Tally, Filling}
 -- ---- one stop
 
 module _ (n : Net) (s : ℕ) {b : Bool} (e : b ≡ n.served s) where
-  pub served_one : b ≡ true → served_of n (s ∷ []) ≡ s ∷ []
+  served_one : b ≡ true → served_of n (s ∷ []) ≡ s ∷ []
   unfolding served_of
   served_one t = rw (← e, t)
 
-  pub served_none : b ≡ false → served_of n (s ∷ []) ≡ []
+  served_none : b ≡ false → served_of n (s ∷ []) ≡ []
   unfolding served_of
   served_none t = rw (← e, t)
 
-  pub count_one : b ≡ true → 1 ≡ length (served_of n (s ∷ []))
+  count_one : b ≡ true → 1 ≡ length (served_of n (s ∷ []))
   count_one t = rw (served_one t)
 
-  pub count_none : b ≡ false → 0 ≡ length (served_of n (s ∷ []))
+  count_none : b ≡ false → 0 ≡ length (served_of n (s ∷ []))
   count_none t = rw (served_none t)
+
+  count_is : {c : ℕ} → c ≡ bool_byte b → c ≡ length (served_of n (s ∷ []))
+  count_is f = split b (λ t. f ∙ ap bool_byte t ∙ count_one t) (λ t. f ∙ ap bool_byte t ∙ count_none t)
 
   module _ (w : List ℕ) (k : ℕ) where
     pub put_room : b ≡ true → k + length (served_of n (s ∷ [])) ≤ length w → k < length w
@@ -75,6 +79,14 @@ module _ {total k : ℕ} {l : List ℕ} where
 
   pub tally_room : (x y : List ℕ) → Tally total k l → l ≡ x ++ y → k + length x ≤ total
   tally_room x y h e = omega (arith, h.rest, ap (λ (m : List ℕ). length m) e, length-append x y)
+
+-- one stop more, by its mark
+pub tally_next : (n : Net) (l : List ℕ) (i : ℕ) {total k c : ℕ} {b : Bool} → Tally total k (served_of n (drop i l))
+    → i < length l → b ≡ n.served (get_or l i 0) → c ≡ bool_byte b
+    → Tally total (k + c) (served_of n (drop (i + 1) l))
+tally_next n l i h g e f =
+    tally_part (served_of n (get_or l i 0 ∷ [])) (served_of n (drop (i + 1) l)) h (served_next n l i g)
+    (count_is n (get_or l i 0) e f)
 
 pub tally_start : (l : List ℕ) → Tally (length l) 0 l
 tally_start l = record { rest = omega arith }

@@ -2,7 +2,7 @@
 use Prim.Native.Nat.{ℕ, zero, suc, ◌+◌, ◌≤◌, ◌<◌}
 use mathlib.Core.Path.{◌≡◌, refl, sym}
 use mathlib.Core.Bool.{true, false}
-use mathlib.Core.Option.{none, some}
+use Rattle.std.specs.Prelude.{None, Some}
 use native.Mathlib.Omega.{arith}
 use native.Mathlib.Decide.{dec_lt}
 use borrow.Author.Tests.{lt-ltb, le-ltb, ltb-true, ltb-false}
@@ -13,7 +13,6 @@ use Rattle.model.specs.declared.Direction.TheVariants.{Departure}
 use Rattle.model.specs.Lists.{upto}
 use Rattle.model.specs.Tables.{Net}
 use Rattle.model.specs.Rides.{first_trip, catch}
-use Rattle.discovery.specs.declared.Trip.TheVariants.{At, Nothing}
 use Rattle.discovery.specs.Trips.{not_before, first_not_before, trip_place}
 use Rattle.discovery.proofs.Firsts.{first_fails, first_passes}
 use Rattle.discovery.proofs.Within.{trip_in, InRoute, at_in, none_in}
@@ -21,7 +20,7 @@ use Rattle.discovery.proofs.Within.{trip_in, InRoute, at_in, none_in}
 module _ (n : Net) (r p x : ℕ) where
   first_some : (k i m : ℕ) → i ≤ m → m < i + k → ((j : ℕ) → i ≤ j → j < m → not_before n r p x j ≡ false)
       → not_before n r p x m ≡ true
-      → first_trip n r p x (upto k i) ≡ some (n.trip_at r m)
+      → first_trip n r p x (upto k i) ≡ Some (n.trip_at r m)
   unfolding first_trip upto not_before
   first_some zero i m l g b e = absurd (omega arith)
   first_some (suc k) i m l g b e =
@@ -31,18 +30,18 @@ module _ (n : Net) (r p x : ℕ) where
       ]
 
   first_none : (k i : ℕ) → ((j : ℕ) → i ≤ j → j < i + k → not_before n r p x j ≡ false)
-      → first_trip n r p x (upto k i) ≡ none
+      → first_trip n r p x (upto k i) ≡ None
   unfolding first_trip upto not_before
   first_none zero i b = refl
   first_none (suc k) i b =
       rw (b i (omega arith) (omega arith)) (first_none k (suc i) (λ j h g. b j (omega arith) (omega arith)))
 
   module _ {i m : ℕ} (e : i ≡ first_not_before n r p x) (f : m ≡ n.trips r) where
-    pub earliest_at : i < m → At i ≡ trip_place Departure n r p x
+    pub earliest_at : i < m → Some i ≡ trip_place Departure n r p x
     unfolding trip_place
     earliest_at l = rw (← e, ← f, lt-ltb i m l)
 
-    pub earliest_past : m ≤ i → Nothing ≡ trip_place Departure n r p x
+    pub earliest_past : m ≤ i → None ≡ trip_place Departure n r p x
     unfolding trip_place
     earliest_past l = rw (← e, ← f, le-ltb i m l)
 

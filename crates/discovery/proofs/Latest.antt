@@ -3,7 +3,7 @@
 use Prim.Native.Nat.{ℕ, zero, suc, ◌+◌, ◌-◌, ◌≤◌, ◌<◌}
 use mathlib.Core.Path.{◌≡◌, refl, sym, ap, ◌∙◌}
 use mathlib.Core.Bool.{Bool, true, false, cond}
-use mathlib.Core.Option.{Option, none, some}
+use Rattle.std.specs.Prelude.{Option, None, Some, SomeIff}
 use mathlib.Core.List.{List, ◌∷◌}
 use native.Mathlib.Omega.{arith}
 use native.Mathlib.Decide.{dec_lt}
@@ -16,7 +16,6 @@ use Rattle.model.specs.Lists.{upto}
 use Rattle.model.specs.Tables.{Net}
 use Rattle.model.specs.Rides.{last_trip, catch}
 use Rattle.repository.specs.Accepted.{Ordered}
-use Rattle.discovery.specs.declared.Trip.TheVariants.{At, Nothing}
 use Rattle.discovery.specs.Trips.{not_before, first_not_before, trip_before, trip_place}
 use Rattle.discovery.proofs.Firsts.{first_fails, first_passes, first_most}
 use Rattle.discovery.proofs.Tests.{not_before_rising}
@@ -31,14 +30,14 @@ module _ (n : Net) (r p x : ℕ) where
   last_over : (i : ℕ) (l : List ℕ) (o : Option ℕ) → after i ≡ true → last_trip n r p x (i ∷ l) o ≡ last_trip n r p x l o
   unfolding last_trip not_before
   last_over i l o e =
-      ap (λ (b : Bool). last_trip n r p x l (cond b (some (n.trip_at r i)) o))
+      ap (λ (b : Bool). last_trip n r p x l (cond b (Some (n.trip_at r i)) o))
       (lt-leb (n.arrival (n.trip_at r i) p) x (omega (arith, leb-true (x + 1) _ e)))
 
   last_kept : (i : ℕ) (l : List ℕ) (o : Option ℕ) → after i ≡ false
-      → last_trip n r p x (i ∷ l) o ≡ last_trip n r p x l (some (n.trip_at r i))
+      → last_trip n r p x (i ∷ l) o ≡ last_trip n r p x l (Some (n.trip_at r i))
   unfolding last_trip not_before
   last_kept i l o e =
-      ap (λ (b : Bool). last_trip n r p x l (cond b (some (n.trip_at r i)) o))
+      ap (λ (b : Bool). last_trip n r p x l (cond b (Some (n.trip_at r i)) o))
       (le-leb (n.arrival (n.trip_at r i) p) x (omega (arith, leb-false (x + 1) _ e)))
 
   last_same : (k i : ℕ) (o : Option ℕ) → ((j : ℕ) → i ≤ j → j < i + k → after j ≡ true)
@@ -50,20 +49,20 @@ module _ (n : Net) (r p x : ℕ) where
       ∙ last_same k (suc i) o (λ j h g. b j (omega arith) (omega arith))
 
   last_some : (k i m : ℕ) (o : Option ℕ) → i ≤ m → m < i + k → ((j : ℕ) → i ≤ j → j ≤ m → after j ≡ false)
-      → ((j : ℕ) → m < j → j < i + k → after j ≡ true) → last_trip n r p x (upto k i) o ≡ some (n.trip_at r m)
+      → ((j : ℕ) → m < j → j < i + k → after j ≡ true) → last_trip n r p x (upto k i) o ≡ Some (n.trip_at r m)
   unfolding last_trip upto
   last_some zero i m o l g b a = absurd (omega arith)
   last_some (suc k) i m o l g b a =
       elim (dec_lt i m) [
         | yes d ↦
             last_kept i (upto k (suc i)) o (b i (omega arith) (omega arith))
-            ∙ last_some k (suc i) m (some (n.trip_at r i)) d (omega arith) (λ j h. b j (omega arith))
+            ∙ last_some k (suc i) m (Some (n.trip_at r i)) d (omega arith) (λ j h. b j (omega arith))
             (λ j h c. a j h (omega arith))
         | no d ↦
             let same : i ≡ m = omega arith in
             last_kept i (upto k (suc i)) o (b i (omega arith) (omega arith))
-            ∙ last_same k (suc i) (some (n.trip_at r i)) (λ j h c. a j (omega arith) (omega arith))
-            ∙ ap (λ (y : ℕ). some (n.trip_at r y)) same
+            ∙ last_same k (suc i) (Some (n.trip_at r i)) (λ j h c. a j (omega arith) (omega arith))
+            ∙ ap (λ (y : ℕ). Some (n.trip_at r y)) same
       ]
 
   -- where one passes, all after it pass
@@ -93,9 +92,9 @@ module _ (n : Net) (r p x : ℕ) where
     latest_one = go i refl
       where
         go : (k : ℕ) → i ≡ k → trip_in n r (trip_before k) ≡ catch Arrival n r p x
-        go zero z = sym (last_same (n.trips r) 0 none (λ j h g. passes j (omega arith) (omega arith)))
+        go zero z = sym (last_same (n.trips r) 0 None (λ j h g. passes j (omega arith) (omega arith)))
         go (suc k) z =
-            sym (last_some (n.trips r) 0 k none (omega arith) (omega (arith, most, e)) (λ j h c. fails j (omega arith))
+            sym (last_some (n.trips r) 0 k None (omega arith) (omega (arith, most, e)) (λ j h c. fails j (omega arith))
             (λ j h c. passes j (omega arith) (omega arith)))
 
   -- the trip at the place is the model's
@@ -111,16 +110,14 @@ module _ (n : Net) (r p x : ℕ) where
       go zero z = none_in n r
       go (suc k) z = at_in n r k (omega (arith, most))
 
-  -- the place as it is found
-  module _ {i : ℕ} (e : i ≡ first_not_before n r p (x + 1)) where
-    pub latest_past : i ≡ 0 → Nothing ≡ trip_place Arrival n r p x
-    unfolding trip_place trip_before
-    latest_past z = rw (← e, z)
-
-    pub latest_at : (i ≡ 0 → ⊥) → At (i - 1) ≡ trip_place Arrival n r p x
-    unfolding trip_place trip_before
-    latest_at z = rw (← e) (go i z)
-      where
-        go : (k : ℕ) → (k ≡ 0 → ⊥) → At (k - 1) ≡ trip_before k
-        go zero z = absurd (z refl)
-        go (suc k) z = let less : suc k - 1 ≡ k = omega arith in rw less
+  -- the place before the one that is found, or none where that is the first
+  pub latest_at : {i : ℕ} (o : Option ℕ) → i ≡ first_not_before n r p (x + 1) → SomeIff o (1 ≤ i) (i - 1)
+      → o ≡ trip_place Arrival n r p x
+  unfolding trip_place trip_before
+  latest_at {i} o e s = rw (← e) (go i o s)
+    where
+      go : (k : ℕ) (q : Option ℕ) → SomeIff q (1 ≤ k) (k - 1) → q ≡ trip_before k
+      go zero None z = refl
+      go (suc k) None z = absurd (z (omega arith))
+      go zero (Some j) z = absurd (omega (arith, z.0))
+      go (suc k) (Some j) z = let same : j ≡ k = omega (arith, z.1) in rw same

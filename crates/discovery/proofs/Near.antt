@@ -54,10 +54,6 @@ module _ (w : List ℕ) (r p x : ℕ) where
     step_up z h g t =
         bracket_up (not_before_rising n r p x (z.known tt).ordered z.route z.position) h g (sym e ∙ t)
 
-    -- of the whole route the place i was looked at
-    pub begin_down : {m : ℕ} → m ≡ n.trips r → i < m → b ≡ true → Around 0 i
-    begin_down f g t = step_down (whole f) (omega arith) g t
-
     pub begin_up : {m : ℕ} → Along w r p → m ≡ n.trips r → i < m → b ≡ false → Around (i + 1) m
     begin_up k f g t = step_up k (whole f) g t
 

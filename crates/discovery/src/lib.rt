@@ -16,13 +16,6 @@ ghost use Rattle.discovery.specs.Trips.{Along, not_before, first_not_before, tri
 
 use shared::{Duration, Time};
 
-// A trip of a route, by its place in the route's order, or none.
-#[derive(Clone, Copy)]
-pub enum Trip {
-    At(u32),
-    Nothing,
-}
-
 // When a trip arrives at its position p.
 pub fn get_arrival_time(tables: &[u32], v: u32, p: u32) -> Time
     requires readable { Readable tables.now }
@@ -64,6 +57,7 @@ fn first_between(tables: &[u32], r: u32, p: u32, x: usize, from: u32, to: u32) -
 {
     let mut lo = from;
     let mut hi = to;
+    // Stays a while: it goes on by quarters of a bracket, which no iterator does.
     while lo < hi {
         let mid = lo + (hi - lo) / 2;
         let low = lo + (mid - lo) / 2;
@@ -78,13 +72,11 @@ fn first_between(tables: &[u32], r: u32, p: u32, x: usize, from: u32, to: u32) -
                 lo = low + 1;
                 hi = mid;
             }
+        } else if c {
+            lo = mid + 1;
+            hi = high;
         } else {
-            if c {
-                lo = mid + 1;
-                hi = high;
-            } else {
-                lo = high + 1;
-            }
+            lo = high + 1;
         }
     }
     lo
@@ -97,18 +89,15 @@ fn first_down(tables: &[u32], r: u32, p: u32, x: usize, to: u32) -> u32
     ensures { result ≡ first_not_before (net_of tables.now) r p x }
 {
     let mut hi = to;
-    let mut steps: u32 = 0;
-    while steps < 2 {
+    for _ in 0..2u32 {
         if hi == 0 {
             return 0;
         }
         let before = hi - 1;
-        if is_not_before(tables, r, p, x, before) {
-            hi = before;
-        } else {
+        if !is_not_before(tables, r, p, x, before) {
             return hi;
         }
-        steps += 1;
+        hi = before;
     }
     first_between(tables, r, p, x, 0, hi)
 }
@@ -120,8 +109,7 @@ fn first_up(tables: &[u32], r: u32, p: u32, x: usize, from: u32, to: u32) -> u32
     ensures { result ≡ first_not_before (net_of tables.now) r p x }
 {
     let mut lo = from;
-    let mut steps: u32 = 0;
-    while steps < 2 {
+    for _ in 0..2u32 {
         if lo == to {
             return to;
         }
@@ -129,7 +117,6 @@ fn first_up(tables: &[u32], r: u32, p: u32, x: usize, from: u32, to: u32) -> u32
             return lo;
         }
         lo += 1;
-        steps += 1;
     }
     first_between(tables, r, p, x, lo, to)
 }
@@ -141,19 +128,20 @@ fn first_near(tables: &[u32], r: u32, p: u32, x: usize, near: usize, n: u32) -> 
     requires n_value { n ≡ (net_of tables.now).trips r }
     ensures { result ≡ first_not_before (net_of tables.now) r p x }
 {
-    if near < n as usize {
-        let i = near as u32;
-        if is_not_before(tables, r, p, x, i) {
-            return first_down(tables, r, p, x, i);
-        }
-        return first_up(tables, r, p, x, i + 1, n);
+    if near >= n as usize {
+        return first_between(tables, r, p, x, 0, n);
     }
-    first_between(tables, r, p, x, 0, n)
+    let i = near as u32;
+    if is_not_before(tables, r, p, x, i) {
+        first_down(tables, r, p, x, i)
+    } else {
+        first_up(tables, r, p, x, i + 1, n)
+    }
 }
 
-// The first trip of a route that arrives at position p not before the label, which is a moment: an absent label is
-// passed over before any lookup. The trip at place `near` is looked at first.
-pub fn find_earliest_trip(tables: &[u32], r: u32, p: u32, label: Time, near: u32) -> Trip
+// The first trip of a route that arrives at position p not before the label, by its place in the route's order. The label
+// is a moment: an absent one is passed over before any lookup. The trip at place `near` is looked at first.
+pub fn find_earliest_trip(tables: &[u32], r: u32, p: u32, label: Time, near: u32) -> Option<u32>
     requires searchable { Searchable tables.now }
     requires r_bound { r < (net_of tables.now).routes }
     requires p_bound { p < (net_of tables.now).positions r }
@@ -162,15 +150,12 @@ pub fn find_earliest_trip(tables: &[u32], r: u32, p: u32, label: Time, near: u32
 {
     let n = repository::routes::trips_of_route(tables, r);
     let i = first_near(tables, r, p, label.0 as usize, near as usize, n);
-    if i < n {
-        return Trip::At(i);
-    }
-    Trip::Nothing
+    if i < n { Some(i) } else { None }
 }
 
 // The last trip of a route that arrives at position p not after the label, which is a moment: it stands before the first that arrives a
 // second later or more. The trip at place `near` is looked at first.
-pub fn find_latest_trip(tables: &[u32], r: u32, p: u32, label: Time, near: u32) -> Trip
+pub fn find_latest_trip(tables: &[u32], r: u32, p: u32, label: Time, near: u32) -> Option<u32>
     requires searchable { Searchable tables.now }
     requires r_bound { r < (net_of tables.now).routes }
     requires p_bound { p < (net_of tables.now).positions r }
@@ -179,10 +164,7 @@ pub fn find_latest_trip(tables: &[u32], r: u32, p: u32, label: Time, near: u32) 
 {
     let n = repository::routes::trips_of_route(tables, r);
     let i = first_near(tables, r, p, label.0 as usize + 1, near as usize + 1, n);
-    if i == 0 {
-        return Trip::Nothing;
-    }
-    Trip::At(i - 1)
+    i.checked_sub(1)
 }
 
 // The first position, in the route of row j, of the stop whose row it is. The tables hold it, so that no search walks
@@ -208,8 +190,7 @@ pub fn transfer_duration(tables: &[u32], j: u32) -> Duration
     if stated.0 != repository::MAX {
         return stated;
     }
-    let metres = repository::footpaths::transfer_metres(tables, j);
-    shared::time_to_walk(metres)
+    shared::time_to_walk(repository::footpaths::transfer_metres(tables, j))
 }
 
 // The span of walk j.
@@ -218,6 +199,5 @@ pub fn walk_duration(tables: &[u32], j: u32) -> Duration
     requires j_bound { j < row_count walks tables.now }
     ensures { result.0 ≡ (walk_row tables.now j).span }
 {
-    let metres = repository::footpaths::walk_metres(tables, j);
-    shared::time_to_walk(metres)
+    shared::time_to_walk(repository::footpaths::walk_metres(tables, j))
 }

@@ -10,8 +10,6 @@ ghost use Rattle.repository.specs.NetOf.{net_of};
 ghost use Rattle.base.specs.Below.{Below};
 ghost use Rattle.discovery.specs.Served.{puts};
 
-use repository::places::Station;
-
 // A stop's own children; the stop itself where it has none.
 fn own_or_itself(tables: &[u32], s: u32) -> &[u32]
     requires accepted { Accepted tables.now }
@@ -32,22 +30,9 @@ pub fn stops_of_stop(tables: &[u32], s: u32) -> &[u32]
     ensures { result.now ≡ place_stops (net_of tables.now) (Stop s) }
 {
     match repository::places::station_of(tables, s) {
-        Station::At(p) => repository::places::children(tables, p),
-        Station::Nothing => own_or_itself(tables, s),
+        Some(p) => repository::places::children(tables, p),
+        None => own_or_itself(tables, s),
     }
-}
-
-// 1 for a served stop, else 0.
-fn one_if_served(tables: &[u32], s: u32) -> usize
-    requires laid { Laid tables.now }
-    requires s_bound { s < (net_of tables.now).stops }
-    ensures value { result ≡ length (served_of (net_of tables.now) (s ∷ [])) }
-    ensures upper_bound { result ≤ 1 }
-{
-    if repository::places::served(tables, s) {
-        return 1;
-    }
-    0
 }
 
 // How many of the stops are served.
@@ -57,10 +42,8 @@ fn count_served(tables: &[u32], stops: &[u32]) -> usize
     ensures { result ≡ length (served_of (net_of tables.now) stops.now) }
 {
     let mut k: usize = 0;
-    let mut i: usize = 0;
-    while i < stops.len() {
-        k += one_if_served(tables, stops[i]);
-        i += 1;
+    for &s in stops {
+        k += usize::from(repository::places::served(tables, s));
     }
     k
 }
@@ -73,11 +56,9 @@ pub fn area_size(tables: &[u32], a: u32) -> usize
 {
     let named = repository::places::stops_named(tables, a);
     let mut k: usize = 0;
-    let mut i: usize = 0;
-    while i < named.len() {
-        let children = repository::places::children(tables, named[i]);
+    for &s in named {
+        let children = repository::places::children(tables, s);
         k += count_served(tables, children);
-        i += 1;
     }
     k
 }
@@ -106,10 +87,8 @@ fn put_served(tables: &[u32], stops: &[u32], places: &mut [u32], k: usize) -> us
     ensures value { result ≡ k + length (served_of (net_of tables.now) stops.now) }
 {
     let mut m = k;
-    let mut i: usize = 0;
-    while i < stops.len() {
-        m = put_if_served(tables, stops[i], places, m);
-        i += 1;
+    for &s in stops {
+        m = put_if_served(tables, s, places, m);
     }
     m
 }
@@ -118,11 +97,7 @@ fn put_served(tables: &[u32], stops: &[u32], places: &mut [u32], k: usize) -> us
 pub fn clear(places: &mut [u32])
     ensures { places.new ≡ replicate (length places.old) 0 }
 {
-    let mut i: usize = 0;
-    while i < places.len() {
-        places[i] = 0;
-        i += 1;
-    }
+    places.fill(0);
 }
 
 // Writes the stops of an area, 0 behind them, and says how many they are. There are never more than there are stops.
@@ -136,11 +111,9 @@ pub fn area_stops(tables: &[u32], a: u32, places: &mut [u32]) -> usize
     clear(places);
     let named = repository::places::stops_named(tables, a);
     let mut k: usize = 0;
-    let mut i: usize = 0;
-    while i < named.len() {
-        let children = repository::places::children(tables, named[i]);
+    for &s in named {
+        let children = repository::places::children(tables, s);
         k = put_served(tables, children, places, k);
-        i += 1;
     }
     k
 }

@@ -4,12 +4,10 @@ use Prim.Native.Nat.{ℕ, ◌*◌}
 use mathlib.Core.Path.{◌≡◌, refl, sym, ap, ◌∙◌}
 use mathlib.Core.Bool.{Bool, true, false, cond}
 use mathlib.Core.Logic.{inl, inr}
-use mathlib.Core.Option.{Option}
+use Rattle.std.specs.Prelude.{Option, Some, None}
 use mathlib.Core.List.{List, [], ◌∷◌, ◌++◌}
 use lib.ListN.{get_or}
 use Rattle.base.proofs.Choice.{cond_elim}
-use Rattle.model.specs.declared.Aboard.{Aboard}
-use Rattle.model.specs.declared.Aboard.TheVariants.{On, Off}
 use Rattle.model.specs.declared.Direction.{Direction}
 use Rattle.model.specs.declared.Leg.{Leg}
 use Rattle.model.specs.declared.LegType.{LegType}
@@ -20,7 +18,7 @@ use Rattle.model.specs.Moments.{better, ahead}
 use Rattle.model.specs.State.{Task, Labels, Times, State, Proposal}
 use Rattle.model.specs.Applying.{wins, store, apply1, apply_all, keep_all}
 use Rattle.model.specs.Legs.{leg_of, propose}
-use Rattle.model.specs.Rides.{board, alight, scan, course, rides}
+use Rattle.model.specs.Rides.{Aboard, board, alight, scan, course, rides}
 use Rattle.model.specs.Footpaths.{walked, paths, footpaths}
 use Rattle.model.specs.Round.{listed, picks, opened, ride_half, foot_half, ridden, footed, aimed, round_times, ridden_parents}
 use Rattle.model.specs.Round.{round_parents, round}
@@ -104,14 +102,14 @@ module _ (d : Direction) (n : Net) (k : ℕ) (t : Times) where
   foot_from c s f x w =
       offered d (k * n.stops) t.target.time.0 f.to (walked d x f.span) (leg_of d c s x f.to (walked d x f.span)) w
 
-  alight_one : (r p : ℕ) (a : Aboard) (w : Work) → Ahead d t.labels.best w.labels
+  alight_one : (r p : ℕ) (a : Option Aboard) (w : Work) → Ahead d t.labels.best w.labels
       → alight_work d n k t.target.time.0 r p a w ≡ half d (k * n.stops) (alight d n t r p a) w
   unfolding alight_work alight
-  alight_one r p Off w h = unfold apply_all keep_all in refl
-  alight_one r p (On v b) w h = one d (k * n.stops) t _ _ _ w h
+  alight_one r p None w h = unfold apply_all keep_all in refl
+  alight_one r p (Some a) w h = one d (k * n.stops) t _ _ _ w h
 
   -- a scan
-  scan_is : (r : ℕ) (ps : List ℕ) (a : Aboard) (w : Work) → Ahead d t.labels.best w.labels → w.prev ≡ t.prev
+  scan_is : (r : ℕ) (ps : List ℕ) (a : Option Aboard) (w : Work) → Ahead d t.labels.best w.labels → w.prev ≡ t.prev
       → scan_work d n k t.target.time.0 r ps a w ≡ half d (k * n.stops) (scan d n t r ps a) w
   unfolding scan_work scan
   scan_is r [] a w h e = unfold apply_all keep_all in refl
@@ -124,15 +122,15 @@ module _ (d : Direction) (n : Net) (k : ℕ) (t : Times) where
 
   routes_is : (rs : List ℕ) (w : Work) → Ahead d t.labels.best w.labels → w.prev ≡ t.prev → w.active ≡ t.active
       → routes_work d n k t.target.time.0 rs w
-      ≡ half d (k * n.stops) (gather (λ r. scan d n t r (course d n r (get_or t.active r 0)) Off) rs) w
+      ≡ half d (k * n.stops) (gather (λ r. scan d n t r (course d n r (get_or t.active r 0)) None) rs) w
   unfolding routes_work route_work gather
   routes_is [] w h e f = unfold apply_all keep_all in refl
   routes_is (r ∷ rs) w h e f =
-      let ps = scan d n t r (course d n r (get_or t.active r 0)) Off in
-      ap (λ (l : List ℕ). routes_work d n k t.target.time.0 rs (scan_work d n k t.target.time.0 r (course d n r (get_or l r 0)) Off w)) f
-      ∙ ap (routes_work d n k t.target.time.0 rs) (scan_is r (course d n r (get_or t.active r 0)) Off w h e)
+      let ps = scan d n t r (course d n r (get_or t.active r 0)) None in
+      ap (λ (l : List ℕ). routes_work d n k t.target.time.0 rs (scan_work d n k t.target.time.0 r (course d n r (get_or l r 0)) None w)) f
+      ∙ ap (routes_work d n k t.target.time.0 rs) (scan_is r (course d n r (get_or t.active r 0)) None w h e)
       ∙ routes_is rs (half d (k * n.stops) ps w) (apply_all_ahead d t.labels.best ps w.labels h) e f
-      ∙ sym (half_join d (k * n.stops) ps (gather (λ r. scan d n t r (course d n r (get_or t.active r 0)) Off) rs) w)
+      ∙ sym (half_join d (k * n.stops) ps (gather (λ r. scan d n t r (course d n r (get_or t.active r 0)) None) rs) w)
 
   -- a stop's footpaths of one kind; the rides' labels are held
   paths_is : (c : LegType) (s : ℕ) (fs : List Foot) (w : Work) → Ahead d t.labels.best w.labels → w.held ≡ t.labels.curr

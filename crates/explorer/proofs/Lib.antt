@@ -3,3 +3,4 @@ pub mod Fused
 pub mod Turns
 pub mod Marked
 pub mod Visited
+pub mod Fixed

@@ -6,8 +6,7 @@ use mathlib.Core.List.{List}
 use native.Mathlib.Omega.{arith}
 use lib.ListN.{length}
 use Rattle.marks.specs.Marks.{marked, first_of}
-use Rattle.marks.specs.declared.Next.{Next}
-use Rattle.marks.specs.declared.Next.TheVariants.{At}
+use Rattle.std.specs.Prelude.{Option, Some}
 use Rattle.allocator.specs.Layout.{Sized, flags, mark_of, held_mark_of}
 use Rattle.allocator.specs.Marked.{after}
 use Rattle.base.proofs.Tab.{tab_length}
@@ -23,7 +22,7 @@ unfolding held_mark_of flags
 held_long stops routes ms = tab_length (marked _) stops 0
 
 -- s is the first stop from i on whose flag is set, a the answer that says so
-module _ (i : ℕ) (fs : List Bool) {stops s : ℕ} {a : Next} (e : a ≡ first_of (after i fs)) (f : a ≡ At s)
+module _ (i : ℕ) (fs : List Bool) {stops s : ℕ} {a : Option ℕ} (e : a ≡ first_of (after i fs)) (f : a ≡ Some s)
     (long : length fs ≡ stops) where
   pub visit_below : s < stops
   visit_below = omega (arith, after_below i fs (sym f ∙ e))

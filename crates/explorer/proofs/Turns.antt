@@ -4,8 +4,7 @@ use mathlib.Core.Path.{◌≡◌, sym, ap, ◌∙◌}
 use mathlib.Core.Bool.{Bool}
 use mathlib.Core.List.{List, [], ◌∷◌}
 use Rattle.marks.specs.Marks.{first_of}
-use Rattle.marks.specs.declared.Next.{Next}
-use Rattle.marks.specs.declared.Next.TheVariants.{At, Nothing}
+use Rattle.std.specs.Prelude.{Option, None, Some}
 use Rattle.model.specs.Lists.{set_in}
 use Rattle.repository.specs.Rows.{rest}
 use Rattle.repository.proofs.Lists.{rest_step, rest_end}
@@ -35,11 +34,11 @@ module _ {A X : Type 0} {f : A → X → X} {goal : X} (r : ℕ → A) (j b : �
 pub mark_start : {X : Type 0} (f : ℕ → X → X) (fs : List Bool) (x : X) → Turn f (in_turn f (set_in 0 fs) x) (after 0 fs) x
 mark_start f fs x = record { rest = ap (λ (l : List ℕ). in_turn f l x) (after_start fs) }
 
-module _ {X : Type 0} {f : ℕ → X → X} {goal : X} (i : ℕ) (fs : List Bool) {x : X} {a : Next}
+module _ {X : Type 0} {f : ℕ → X → X} {goal : X} (i : ℕ) (fs : List Bool) {x : X} {a : Option ℕ}
     (t : Turn f goal (after i fs) x)
     (e : a ≡ first_of (after i fs)) where
-  pub mark_next : {s : ℕ} {y : X} → a ≡ At s → y ≡ f s x → Turn f goal (after (s + 1) fs) y
+  pub mark_next : {s : ℕ} {y : X} → a ≡ Some s → y ≡ f s x → Turn f goal (after (s + 1) fs) y
   mark_next g h = next t (after_next i fs (sym g ∙ e)) h
 
-  pub mark_end : a ≡ Nothing → x ≡ goal
+  pub mark_end : a ≡ None → x ≡ goal
   mark_end g = end t (after_none i fs (sym g ∙ e))

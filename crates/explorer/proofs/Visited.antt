@@ -8,8 +8,7 @@ use native.Mathlib.Omega.{arith}
 use lib.ListN.{drop}
 use Rattle.base.specs.Each.{Each, nil, cons}
 use Rattle.marks.specs.Marks.{first_of}
-use Rattle.marks.specs.declared.Next.{Next}
-use Rattle.marks.specs.declared.Next.TheVariants.{At}
+use Rattle.std.specs.Prelude.{Option, Some}
 use Rattle.model.specs.Lists.{set_in}
 use Rattle.allocator.specs.Marked.{after}
 use Rattle.allocator.proofs.Visited.{after_next}
@@ -27,8 +26,8 @@ later : (P : ℕ → Type 0) (i : ℕ) (fs : List Bool) → Each P (set_in 0 fs)
 unfolding after
 later P i fs h = rw (zero-add i) at (drops P i 0 fs h)
 
-pub visited : (P : ℕ → Type 0) (i : ℕ) (fs : List Bool) {a : Next} {s : ℕ} → Each P (set_in 0 fs)
-    → a ≡ first_of (after i fs) → a ≡ At s → P s
+pub visited : (P : ℕ → Type 0) (i : ℕ) (fs : List Bool) {a : Option ℕ} {s : ℕ} → Each P (set_in 0 fs)
+    → a ≡ first_of (after i fs) → a ≡ Some s → P s
 visited P i fs {s = s} h e f = front (subst (Each P) (after_next i fs (sym f ∙ e)) (later P i fs h))
   where
     front : {l : List ℕ} → Each P (s ∷ l) → P s

@@ -1,6 +1,6 @@
 -- One proposal applied to the workspace, and a workspace with other labels and parents.
 use Rattle.std.specs.Prelude.{List}
-use Rattle.std.proofs.Math.Option.{Option}
+use Rattle.std.specs.Prelude.{Option}
 use Rattle.model.specs.declared.Leg.{Leg}
 use Rattle.model.specs.State.{Task, Labels}
 use Rattle.model.specs.Tables.{Net}

@@ -12,6 +12,6 @@ pub record Fixed (tables : List ℕ) (stops routes : ℕ) : Type 0 where
   pub net_routes : routes ≡ (net_of tables).routes
 
 -- a round over them
-pub record InRound (tables : List ℕ) (round : Round) : Type 0 where
-  pub fixed : Fixed tables round.stops round.routes
+pub record InRound (tables : List ℕ) (stops routes : ℕ) (round : Round) : Type 0 where
+  pub fixed : Fixed tables stops routes
   pub number : round.number < MOST_ROUNDS

@@ -1,8 +1,6 @@
 -- The half-rounds as the program does them: each proposal is applied as it is made, and tested against the best moment of then. `fused` of
 -- proofs/Fused.antt says that this is the model's: all proposals made from the state before, then applied in order.
-use Rattle.std.specs.Prelude.{ℕ, ◌*◌, Bool, cond, List, [], ◌∷◌, get_or}
-use Rattle.model.specs.declared.Aboard.{Aboard}
-use Rattle.model.specs.declared.Aboard.TheVariants.{On, Off}
+use Rattle.std.specs.Prelude.{ℕ, ◌*◌, Bool, cond, Option, Some, None, List, [], ◌∷◌, get_or}
 use Rattle.model.specs.declared.Direction.{Direction}
 use Rattle.model.specs.declared.Leg.{Leg}
 use Rattle.model.specs.declared.LegType.{LegType}
@@ -11,7 +9,7 @@ use Rattle.model.specs.Tables.{Foot, Net}
 use Rattle.model.specs.Lists.{set_in}
 use Rattle.model.specs.Moments.{ahead}
 use Rattle.model.specs.Legs.{leg_of}
-use Rattle.model.specs.Rides.{reach, leave, board, course}
+use Rattle.model.specs.Rides.{Aboard, reach, leave, board, course}
 use Rattle.model.specs.Footpaths.{walked}
 use Rattle.model.specs.Work.{Work}
 use Rattle.allocator.specs.Operations.{applied}
@@ -22,18 +20,18 @@ offered d row target s m g w = cond (ahead d m target) (applied d row s m g w) w
 
 module _ (d : Direction) (n : Net) (k target : ℕ) where
   -- who is aboard at position p of route r gets off there
-  unfoldable pub alight_work : ℕ → ℕ → Aboard → Work → Work
-  alight_work r p Off w = w
-  alight_work r p (On v b) w =
-      offered d (k * n.stops) target (n.stop_at r p) (reach d n v p)
-      (leg_of d (Transit v) (n.stop_at r b) (leave d n v b) (n.stop_at r p) (reach d n v p)) w
+  unfoldable pub alight_work : ℕ → ℕ → Option Aboard → Work → Work
+  alight_work r p None w = w
+  alight_work r p (Some a) w =
+      offered d (k * n.stops) target (n.stop_at r p) (reach d n a.trip p)
+      (leg_of d (Transit a.trip) (n.stop_at r a.since) (leave d n a.trip a.since) (n.stop_at r p) (reach d n a.trip p)) w
 
-  unfoldable pub scan_work : ℕ → List ℕ → Aboard → Work → Work
+  unfoldable pub scan_work : ℕ → List ℕ → Option Aboard → Work → Work
   scan_work r [] a w = w
   scan_work r (p ∷ ps) a w = scan_work r ps (board d n w.prev r p a) (alight_work r p a w)
 
   unfoldable pub route_work : ℕ → Work → Work
-  route_work r w = scan_work r (course d n r (get_or w.active r 0)) Off w
+  route_work r w = scan_work r (course d n r (get_or w.active r 0)) None w
 
   unfoldable pub routes_work : List ℕ → Work → Work
   routes_work [] w = w

@@ -5,8 +5,7 @@ use mathlib.Core.Bool.{Bool}
 use mathlib.Core.List.{List, [], ◌∷◌}
 use native.Mathlib.Omega.{arith}
 use Rattle.marks.specs.Marks.{first_of}
-use Rattle.marks.specs.declared.Next.{Next}
-use Rattle.marks.specs.declared.Next.TheVariants.{At}
+use Rattle.std.specs.Prelude.{Option, Some}
 use Rattle.model.specs.declared.Direction.{Direction}
 use Rattle.model.specs.Tables.{Net}
 use Rattle.model.specs.Lists.{upto, set_in}
@@ -18,10 +17,12 @@ use Rattle.repository.specs.NetOf.{net_of}
 use Rattle.repository.specs.Rows.{calls, first_row, past_row, OfStop, rest}
 use Rattle.repository.proofs.Lists.{calls_are}
 use Rattle.repository.proofs.Ranges.{of_stop, route_known}
-use Rattle.allocator.specs.Layout.{view, mark_of}
+use Rattle.allocator.specs.Layout.{view}
 use Rattle.allocator.specs.Marked.{after}
 use Rattle.allocator.specs.Parts.{with_active, with_mask}
 use Rattle.allocator.specs.Operations.{chosen_of, with_chosen, activated}
+use Rattle.allocator.specs.Workspace.{state, mark}
+use Rattle.allocator.specs.declared.Workspace.{Workspace}
 use Rattle.explorer.specs.Turns.{in_turn, Turn}
 use Rattle.explorer.proofs.Turns.{row_next, mark_start, mark_next}
 use Rattle.explorer_choosing.specs.Chosen.{chosen_by, chosen_at, chosen_all}
@@ -67,22 +68,20 @@ module _ {w : List ℕ} {stops s j b : ℕ} (h : Searchable w) (e-stops : stops 
   route_next d t er ep ey = row_next (call_route w) j b t l (ey ∙ rw (er, ep s here))
 
 -- ---- the marked stops; choosing does not change which these are
-module _ (d : Direction) (n : Net) (stops routes : ℕ) where
-  pub stop_start : (ws ms : List ℕ) → Turn (chosen_at d n) (chosen_all d n (view stops routes ws ms)) (after 0 (mark_of stops routes ms)) (view stops routes ws ms)
+module _ (d : Direction) (n : Net) where
+  pub stop_start : (w : Workspace) → Turn (chosen_at d n) (chosen_all d n (state w)) (after 0 (mark w)) (state w)
   unfolding chosen_all view
-  stop_start ws ms = record {
+  stop_start w = record {
     rest =
-        (mark_start (chosen_at d n) (mark_of stops routes ms) (view stops routes ws ms)).rest
-        ∙ sym (stops_turn d n (set_in 0 (mark_of stops routes ms)) (view stops routes ws ms));
+        (mark_start (chosen_at d n) (mark w) (state w)).rest
+        ∙ sym (stops_turn d n (set_in 0 (mark w)) (state w));
   }
 
-  module _ (i : ℕ) (ws ms : List ℕ) {goal : Work} {a : Next}
-      (turn : Turn (chosen_at d n) goal (after i (mark_of stops routes ms)) (view stops routes ws ms))
-      (e : a ≡ first_of (after i (mark_of stops routes ms))) where
-    pub stop_next : (ws' ms' : List ℕ) {s : ℕ} → a ≡ At s → view stops routes ws' ms' ≡ chosen_at d n s (view stops routes ws ms)
-        → Turn (chosen_at d n) goal (after (s + 1) (mark_of stops routes ms')) (view stops routes ws' ms')
-    unfolding view chosen_at with_chosen with_active with_mask
-    stop_next ws' ms' {s} f g =
-        let same : mark_of stops routes ms' ≡ mark_of stops routes ms = ap (λ (x : Work). x.labels.mark) g in
-        subst (λ (l : List Bool). Turn (chosen_at d n) goal (after (s + 1) l) (view stops routes ws' ms')) (sym same)
-        (mark_next i (mark_of stops routes ms) turn e f g)
+  pub stop_next : (i : ℕ) (w w' : Workspace) {goal : Work} {a : Option ℕ} {s : ℕ} → Turn (chosen_at d n) goal (after i (mark w)) (state w)
+      → a ≡ first_of (after i (mark w)) → a ≡ Some s → state w' ≡ chosen_at d n s (state w)
+      → Turn (chosen_at d n) goal (after (s + 1) (mark w')) (state w')
+  unfolding view chosen_at with_chosen with_active with_mask
+  stop_next i w w' {goal} {a} {s} turn e f g =
+      let same : mark w' ≡ mark w = ap (λ (x : Work). x.labels.mark) g in
+      subst (λ (l : List Bool). Turn (chosen_at d n) goal (after (s + 1) l) (state w')) (sym same)
+      (mark_next i (mark w) turn e f g)

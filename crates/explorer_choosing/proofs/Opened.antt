@@ -1,6 +1,6 @@
 -- A round's beginning, step by step: what the labels swapped, the routes chosen and the marks cleared come to.
 use Prim.Native.Nat.{ℕ}
-use mathlib.Core.Path.{◌≡◌, refl, ap, ◌∙◌}
+use mathlib.Core.Path.{◌≡◌, refl, ◌∙◌}
 use Rattle.model.specs.declared.Direction.{Direction}
 use Rattle.model.specs.declared.Direction.TheVariants.{Departure, Arrival}
 use Rattle.model.specs.declared.Mode.{Mode}
@@ -29,11 +29,7 @@ module _ (n : Net) where
   steps Rescan Departure w = refl
   steps Rescan Arrival w = refl
 
-pub opened_steps : (n : Net) (mode : Mode) (d : Direction) (w : Work) {stops routes : ℕ} {x y z : Work} → stops ≡ n.stops → routes ≡ n.routes
-    → x ≡ swapped stops w
-    → y ≡ chosen_all d n (unmasked routes (refreshed mode routes d x)) → z ≡ unmarked stops y → z ≡ opened_by mode d n w
-opened_steps n mode d w e-stops e-routes ex ey ez = ez ∙ rw (ey, ex, e-stops, e-routes) (steps n mode d w)
-
--- routes chosen after another operation
-pub chosen_after : (d : Direction) (n : Net) {z x y : Work} → z ≡ chosen_all d n x → x ≡ y → z ≡ chosen_all d n y
-chosen_after d n e f = e ∙ ap (chosen_all d n) f
+pub opened_steps : (n : Net) (mode : Mode) (d : Direction) (w : Work) {stops routes' stops'' : ℕ} {x y z : Work} → stops ≡ n.stops
+    → routes' ≡ n.routes → stops'' ≡ n.stops → x ≡ swapped stops w
+    → y ≡ chosen_all d n (unmasked routes' (refreshed mode routes' d x)) → z ≡ unmarked stops'' y → z ≡ opened_by mode d n w
+opened_steps n mode d w e-stops e-routes e-stops'' ex ey ez = ez ∙ rw (ey, ex, e-stops, e-routes, e-stops'') (steps n mode d w)

@@ -1,6 +1,6 @@
 -- What the program's sums need of the labels that are held, the model promises: they are those that a round's rides left.
 use Prim.Native.Nat.{ℕ, ◌+◌, ◌*◌, ◌≤◌}
-use mathlib.Core.Option.{Option}
+use Rattle.std.specs.Prelude.{Option}
 use mathlib.Core.List.{List}
 use lib.ListN.{length}
 use Rattle.model.specs.declared.Leg.{Leg}

@@ -15,7 +15,9 @@ use Rattle.model.specs.Moments.{or_max, better, ahead}
 use Rattle.model.specs.Applying.{wins, apply1}
 use Rattle.model.specs.Footpaths.{walked}
 use Rattle.model.specs.Work.{Work}
-use Rattle.allocator.specs.Layout.{view, best_of}
+use Rattle.allocator.specs.Layout.{view}
+use Rattle.allocator.specs.Workspace.{state, best}
+use Rattle.allocator.specs.declared.Workspace.{Workspace}
 use Rattle.allocator.specs.Operations.{applied}
 use Rattle.explorer.specs.declared.Round.{Round}
 use Rattle.explorer.specs.Fused.{offered}
@@ -48,12 +50,12 @@ lost d row target s m g w e = go (ahead d m target)
     go true = rw e
     go false = refl
 
-pub path_lost : (round : Round) (c : LegType) (foot : Foot) (w ws ms : List ℕ) {s x to : ℕ} {b : Bool} → Leaving w round s x
-    → to ≡ foot.to → b ≡ better round.direction x (get_or (best_of round.stops round.routes ws) to 0) → b ≡ false
-    → view round.stops round.routes ws ms
-    ≡ foot_from round.direction round.stops round.number round.target.0 c s x foot (view round.stops round.routes ws ms)
+pub path_lost : (round : Round) (c : LegType) (foot : Foot) (w : List ℕ) (space : Workspace) {s x to : ℕ} {b : Bool}
+    → Leaving w space.stops space.routes round s x
+    → to ≡ foot.to → b ≡ better round.direction x (get_or (best space) to 0) → b ≡ false
+    → state space ≡ foot_from round.direction space.stops round.number round.target.0 c s x foot (state space)
 unfolding foot_from view
-path_lost round c foot w ws ms {s} {x} {to} h et eb f =
-    let e : better round.direction x (get_or (best_of round.stops round.routes ws) foot.to 0) ≡ false = rw (← et) (sym eb ∙ f) in
-    lost round.direction (round.number * round.stops) round.target.0 foot.to _ _ (view round.stops round.routes ws ms)
+path_lost round c foot w space {s} {x} {to} h et eb f =
+    let e : better round.direction x (get_or (best space) foot.to 0) ≡ false = rw (← et) (sym eb ∙ f) in
+    lost round.direction (round.number * space.stops) round.target.0 foot.to _ _ (state space)
     (worse_on round.direction x foot.span _ h.label.some e)

@@ -20,19 +20,19 @@ pub path_start : (f : Foot → Work → Work) (r : ℕ → Foot) (a b : ℕ) (x 
 path_start f r a b x e = record { rest = ap (λ (l : List Foot). in_turn f l x) (sym e) }
 
 -- ---- a row of stop s, where it leads, and how long it takes
-pub row_here : (l : Listing) {w : List ℕ} {round : Round} {s x j b : ℕ} → Leaving w round s x → first_row l w s ≤ j → j < b
+pub row_here : (l : Listing) {w : List ℕ} {stops routes : ℕ} {round : Round} {s x j b : ℕ} → Leaving w stops routes round s x → first_row l w s ≤ j → j < b
     → b ≡ past_row l w s
     → OfStop l w s j
 row_here l h from g eb = of_stop l (omega (arith, h.stop, h.in_round.fixed.net_stops)) refl from eb g
 
-module _ {w : List ℕ} {round : Round} {s x j u : ℕ} (h : Leaving w round s x) where
-  pub transfer_in : OfStop transfers w s j → u ≡ (transfer_row w j).to → u < round.stops
+module _ {w : List ℕ} {stops routes : ℕ} {round : Round} {s x j u : ℕ} (h : Leaving w stops routes round s x) where
+  pub transfer_in : OfStop transfers w s j → u ≡ (transfer_row w j).to → u < stops
   transfer_in y e = omega (arith, transfer_known h.in_round.fixed.searchable y e, h.in_round.fixed.net_stops)
 
   pub transfer_most : OfStop transfers w s j → u ≡ (transfer_row w j).span → u ≤ 86_400
   transfer_most y e = transfer_short h.in_round.fixed.searchable (row_known transfers h.in_round.fixed.searchable.laid y) e
 
-  pub walk_in : OfStop walks w s j → u ≡ (walk_row w j).to → u < round.stops
+  pub walk_in : OfStop walks w s j → u ≡ (walk_row w j).to → u < stops
   walk_in y e =
       omega (arith, walk_known h.in_round.fixed.searchable (row_known walks h.in_round.fixed.searchable.laid y) e, h.in_round.fixed.net_stops)
 

@@ -25,10 +25,10 @@ pub record Footing (stops : ℕ) (w : Work) : Type 0 where
   pub most : (s : ℕ) → s < stops → get_or w.held s 0 ≤ LAST_MOMENT
   pub marked : Each (λ s. (s < stops) × (0 < get_or w.held s 0)) (set_in 0 w.held_mark)
 
--- stop s, which its label x lets a footpath leave in a round over the tables w
-pub record Leaving (w : List ℕ) (round : Round) (s x : ℕ) : Type 0 where
-  pub in_round : InRound w round
-  pub stop : s < round.stops
+-- stop s, which its label x lets a footpath leave in a round over the tables w, of so many stops and routes
+pub record Leaving (w : List ℕ) (stops routes : ℕ) (round : Round) (s x : ℕ) : Type 0 where
+  pub in_round : InRound w stops routes round
+  pub stop : s < stops
   pub label : Label x
 
 -- a footpath of kind c from stop s, whose label is x
@@ -36,6 +36,6 @@ unfoldable pub foot_from : Direction → ℕ → ℕ → ℕ → LegType → ℕ
 foot_from d stops k target c s x f w =
     offered d (k * stops) target f.to (walked d x f.span) (leg_of d c s x f.to (walked d x f.span)) w
 
--- the same in a round, from a foothold
-abbrev pub foot_by : Round → LegType → Foothold → Foot → Work → Work
-foot_by round c from = foot_from round.direction round.stops round.number round.target.0 c from.stop from.label.0
+-- the same in a round, from a foothold, where there are so many stops
+abbrev pub foot_by : ℕ → Round → LegType → Foothold → Foot → Work → Work
+foot_by stops round c from = foot_from round.direction stops round.number round.target.0 c from.stop from.label.0

@@ -8,16 +8,14 @@ ghost use Rattle.model.specs.Moments.{better};
 ghost use Rattle.model.specs.Footpaths.{walked};
 ghost use Rattle.repository.specs.NetOf.{transfer_row, walk_row, net_of};
 ghost use Rattle.repository.specs.Rows.{transfers, walks, OfStop};
-ghost use Rattle.allocator.specs.Layout.{Words, view, best_of, held_of};
-ghost use Rattle.allocator.specs.Does.{Usable, Does};
+ghost use Rattle.allocator.specs.Workspace.{state, best, held_labels, Becomes};
 ghost use Rattle.explorer.specs.Fixed.{InRound};
 ghost use Rattle.explorer.specs.Fused.{stop_work, feet_work};
 ghost use Rattle.explorer.specs.Turns.{in_turn};
 ghost use Rattle.explorer_footpaths.specs.Footing.{Label, Footing, Leaving, foot_by};
 
-use allocator::Offer;
+use allocator::{Offer, Workspace};
 use explorer::Round;
-use marks::Next;
 use model::{Direction, LegType};
 use shared::{Duration, Time};
 
@@ -50,33 +48,30 @@ fn walked_at(d: Direction, x: Time, span: Duration) -> Time
 
 // Whether a footpath from x could gain anything at the stop `to`: it takes time, so where x itself is no better than the best
 // moment there, its span need not be worked out.
-fn may_gain(words: &[u32], round: Round, x: Time, to: u32) -> bool
-    requires words { Words round.stops round.routes words.now }
-    requires to_lt_stops { to < round.stops }
-    ensures { result ≡ better round.direction x.0 (get_or (best_of round.stops round.routes words.now) to 0) }
+fn may_gain(workspace: &Workspace, round: Round, x: Time, to: u32) -> bool
+    requires { to < workspace.now.stops }
+    ensures { result ≡ better round.direction x.0 (get_or (best workspace.now) to 0) }
 {
     let d = round.direction;
-    let best = allocator::best_at(words, round.stops, round.routes, to);
+    let best = workspace.best(to);
     allocator::is_better(d, x, best)
 }
 
 // A footpath to the stop `to`, of one list or the other: `kind` is the kind of its leg.
 fn explore_path(
-    words: &mut [u32],
-    marks: &mut [u64],
+    workspace: &mut Workspace,
     round: Round,
     kind: LegType,
     from: Foothold,
     to: u32,
     span: Duration,
 )
-    requires usable { Usable round.stops round.routes words.old marks.old }
     requires number_bound { round.number < MOST_ROUNDS }
     requires label { Label from.label.0 }
-    requires to_lt_stops { to < round.stops }
+    requires to_lt_stops { to < workspace.old.stops }
     requires span_bound { span.0 ≤ 86400 }
-    ensures { Does round.stops round.routes (foot_by round kind from (record { to = to; span = span.0 }))
-        words.old marks.old words.new marks.new }
+    ensures { Becomes (foot_by workspace.old.stops round kind from (record { to = to; span = span.0 }))
+        workspace.old workspace.new }
 {
     let d = round.direction;
     let y = walked_at(d, from.label, span);
@@ -87,142 +82,94 @@ fn explore_path(
             moment: y,
             leg: g,
         };
-        allocator::apply(
-            words,
-            marks,
-            round.stops,
-            round.routes,
-            d,
-            round.number,
-            offer,
-        );
+        workspace.apply(d, round.number, offer);
     }
 }
 
 // ---- the footpaths of a stop: a loop for each list, each called in one place, so that the compiler sees which list it is
+// Stays two of each: what they share is `explore_path`, and one for both would be handed a kind and four readers of a list.
 
 // Row j of the transfers.
-fn explore_transfer(
-    tables: &[u32],
-    words: &mut [u32],
-    marks: &mut [u64],
-    round: Round,
-    from: Foothold,
-    j: u32,
-)
-    requires leaving { Leaving tables.now round from.stop from.label.0 }
+fn explore_transfer(tables: &[u32], workspace: &mut Workspace, round: Round, from: Foothold, j: u32)
+    requires leaving { Leaving tables.now workspace.old.stops workspace.old.routes round from.stop from.label.0 }
     requires of_stop { OfStop transfers tables.now from.stop j }
-    requires usable { Usable round.stops round.routes words.old marks.old }
-    ensures { Does round.stops round.routes (foot_by round Transfer from (transfer_row tables.now j))
-        words.old marks.old words.new marks.new }
+    ensures { Becomes (foot_by workspace.old.stops round Transfer from (transfer_row tables.now j))
+        workspace.old workspace.new }
 {
     let to = repository::footpaths::transfer_to(tables, j);
-    if may_gain(words, round, from.label, to) {
+    if may_gain(workspace, round, from.label, to) {
         let span = discovery::transfer_duration(tables, j);
-        explore_path(words, marks, round, LegType::Transfer, from, to, span);
+        explore_path(workspace, round, LegType::Transfer, from, to, span);
     }
 }
 
 // The transfers that are listed under a stop.
-fn explore_transfers_at(
-    tables: &[u32],
-    words: &mut [u32],
-    marks: &mut [u64],
-    round: Round,
-    from: Foothold,
-)
-    requires leaving { Leaving tables.now round from.stop from.label.0 }
-    requires usable { Usable round.stops round.routes words.old marks.old }
-    ensures { Does round.stops round.routes
-        (in_turn (foot_by round Transfer from) ((net_of tables.now).transfers from.stop))
-        words.old marks.old words.new marks.new }
+fn explore_transfers_at(tables: &[u32], workspace: &mut Workspace, round: Round, from: Foothold)
+    requires leaving { Leaving tables.now workspace.old.stops workspace.old.routes round from.stop from.label.0 }
+    ensures { Becomes
+        (in_turn (foot_by workspace.old.stops round Transfer from) ((net_of tables.now).transfers from.stop))
+        workspace.old workspace.new }
 {
-    let end = repository::footpaths::transfers_to(tables, from.stop);
-    let mut j = repository::footpaths::transfers_from(tables, from.stop);
-    while j < end {
-        explore_transfer(tables, words, marks, round, from, j);
-        j += 1;
+    let first = repository::footpaths::transfers_from(tables, from.stop);
+    for j in first..repository::footpaths::transfers_to(tables, from.stop) {
+        explore_transfer(tables, workspace, round, from, j);
     }
 }
 
 // Row j of the walks.
-fn explore_walk(
-    tables: &[u32],
-    words: &mut [u32],
-    marks: &mut [u64],
-    round: Round,
-    from: Foothold,
-    j: u32,
-)
-    requires leaving { Leaving tables.now round from.stop from.label.0 }
+fn explore_walk(tables: &[u32], workspace: &mut Workspace, round: Round, from: Foothold, j: u32)
+    requires leaving { Leaving tables.now workspace.old.stops workspace.old.routes round from.stop from.label.0 }
     requires of_stop { OfStop walks tables.now from.stop j }
-    requires usable { Usable round.stops round.routes words.old marks.old }
-    ensures { Does round.stops round.routes (foot_by round Walk from (walk_row tables.now j))
-        words.old marks.old words.new marks.new }
+    ensures { Becomes (foot_by workspace.old.stops round Walk from (walk_row tables.now j))
+        workspace.old workspace.new }
 {
     let to = repository::footpaths::walk_to(tables, j);
-    if may_gain(words, round, from.label, to) {
+    if may_gain(workspace, round, from.label, to) {
         let span = discovery::walk_duration(tables, j);
-        explore_path(words, marks, round, LegType::Walk, from, to, span);
+        explore_path(workspace, round, LegType::Walk, from, to, span);
     }
 }
 
 // The walks that are listed under it.
-fn explore_walks_at(
-    tables: &[u32],
-    words: &mut [u32],
-    marks: &mut [u64],
-    round: Round,
-    from: Foothold,
-)
-    requires leaving { Leaving tables.now round from.stop from.label.0 }
-    requires usable { Usable round.stops round.routes words.old marks.old }
-    ensures { Does round.stops round.routes
-        (in_turn (foot_by round Walk from) ((net_of tables.now).walks from.stop))
-        words.old marks.old words.new marks.new }
+fn explore_walks_at(tables: &[u32], workspace: &mut Workspace, round: Round, from: Foothold)
+    requires leaving { Leaving tables.now workspace.old.stops workspace.old.routes round from.stop from.label.0 }
+    ensures { Becomes
+        (in_turn (foot_by workspace.old.stops round Walk from) ((net_of tables.now).walks from.stop))
+        workspace.old workspace.new }
 {
-    let end = repository::footpaths::walks_to(tables, from.stop);
-    let mut j = repository::footpaths::walks_from(tables, from.stop);
-    while j < end {
-        explore_walk(tables, words, marks, round, from, j);
-        j += 1;
+    let first = repository::footpaths::walks_from(tables, from.stop);
+    for j in first..repository::footpaths::walks_to(tables, from.stop) {
+        explore_walk(tables, workspace, round, from, j);
     }
 }
 
 // From one stop: listed transfers, then walks if allowed. Its label is read once, and is the one that
 // the rides left: the footpaths of this half-round do not change it.
-fn explore_stop(tables: &[u32], words: &mut [u32], marks: &mut [u64], round: Round, s: u32)
-    requires leaving { Leaving tables.now round s (get_or (held_of round.stops round.routes words.old) s 0) }
-    requires usable { Usable round.stops round.routes words.old marks.old }
-    ensures { Does round.stops round.routes
+fn explore_stop(tables: &[u32], workspace: &mut Workspace, round: Round, s: u32)
+    requires leaving { Leaving tables.now workspace.old.stops workspace.old.routes round s (get_or (held_labels workspace.old) s 0) }
+    ensures { Becomes
         (stop_work round.direction (net_of tables.now) round.number round.target.0 round.walking s)
-        words.old marks.old words.new marks.new }
+        workspace.old workspace.new }
 {
-    let x = allocator::held_at(words, round.stops, round.routes, s);
+    let x = workspace.held(s);
     let from = Foothold { stop: s, label: x };
-    explore_transfers_at(tables, words, marks, round, from);
+    explore_transfers_at(tables, workspace, round, from);
     if round.walking {
-        explore_walks_at(tables, words, marks, round, from);
+        explore_walks_at(tables, workspace, round, from);
     }
 }
 
 // From each stop that the round's rides marked, ascending.
-pub fn explore_transfers(tables: &[u32], words: &mut [u32], marks: &mut [u64], round: Round)
-    requires in_round { InRound tables.now round }
-    requires usable { Usable round.stops round.routes words.old marks.old }
-    requires footing { Footing round.stops (view round.stops round.routes words.old marks.old) }
-    ensures { Does round.stops round.routes
+pub fn explore_transfers(tables: &[u32], workspace: &mut Workspace, round: Round)
+    requires in_round { InRound tables.now workspace.old.stops workspace.old.routes round }
+    requires footing { Footing workspace.old.stops (state workspace.old) }
+    ensures { Becomes
         (feet_work round.direction (net_of tables.now) round.number round.target.0 round.walking)
-        words.old marks.old words.new marks.new }
+        workspace.old workspace.new }
 {
     let mut at: usize = 0;
-    loop {
-        match allocator::next_held(marks, round.stops, round.routes, at) {
-            Next::At(s) => {
-                explore_stop(tables, words, marks, round, s as u32);
-                at = s + 1;
-            }
-            Next::Nothing => return,
-        }
+    while let Some(s) = workspace.next_held(at) {
+        explore_stop(tables, workspace, round, s as u32);
+        at = s + 1;
     }
 }

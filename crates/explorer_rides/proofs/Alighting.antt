@@ -13,15 +13,17 @@ use Rattle.model.specs.Moments.{MAX, better, ahead}
 use Rattle.model.specs.Applying.{wins}
 use Rattle.model.specs.Work.{Work}
 use Rattle.repository.specs.NetOf.{net_of}
-use Rattle.allocator.specs.Layout.{best_of, view}
-use Rattle.allocator.specs.Does.{Usable, Does}
+use Rattle.allocator.specs.Layout.{view}
+use Rattle.allocator.specs.Workspace.{state, best}
+use Rattle.allocator.specs.declared.Workspace.{Workspace}
 use Rattle.allocator.specs.Operations.{applied}
 use Rattle.explorer.specs.declared.Round.{Round}
+use Rattle.explorer.specs.Fixed.{Fixed}
 use Rattle.explorer.specs.Fused.{offered, alight_work}
 use Rattle.explorer.proofs.Fused.{idle}
 use Rattle.explorer_rides.specs.declared.Call.{Call}
 use Rattle.explorer_rides.specs.declared.Ride.{Ride}
-use Rattle.explorer_rides.specs.Riding.{aboard, Seat, Seated, ride_leg, OnRoute, Riding, reach_in}
+use Rattle.explorer_rides.specs.Riding.{aboard, Seat, Seated, ride_leg, OnRoute, reach_in}
 use Rattle.explorer_rides.specs.declared.position.Seen.{Seen}
 use Rattle.explorer_rides.specs.Looking.{proposes_at, look_at}
 use Rattle.explorer_rides.proofs.Seats.{seat_on, aboard_on, aboard_off}
@@ -53,60 +55,54 @@ module _ (d : Direction) (row target s m : ℕ) (g : Leg) (x : Work) where
       go false f = refl
 
 -- ---- nobody is aboard
-alight_off : (w : List ℕ) (round : Round) (here : Call) {ws ms : List ℕ} (a : Ride) → a.place ≡ MAX
-    → Usable round.stops round.routes ws ms
-    → Does round.stops round.routes (alight_work round.direction (net_of w) round.number round.target.0 here.route here.position (aboard a)) ws ms ws ms
+alight_off : (w : List ℕ) (round : Round) (here : Call) (x : Work) (a : Ride) → a.place ≡ MAX
+    → x ≡ alight_work round.direction (net_of w) round.number round.target.0 here.route here.position (aboard a) x
 unfolding alight_work
-alight_off w round here a e u = record { holds = rw (aboard_off a e); usable = u }
+alight_off w round here x a e = rw (aboard_off a e)
 
 -- ---- the leg that the code makes is the one proposed
-pub proposed : (w : List ℕ) (round : Round) (here : Call) (a : Ride) {t : ℕ} {g : Leg} {ws ms ws' ms' : List ℕ}
+pub proposed : (w : List ℕ) (round : Round) (here : Call) (a : Ride) (x : Work) (stops : ℕ) {t : ℕ} {g : Leg} {y : Work}
     → t ≡ reach_in round.direction w a.row here.position
     → g ≡ ride_leg round.direction (net_of w) here.route a here.stop t
-    → Does round.stops round.routes (applied round.direction (round.number * round.stops) here.stop t g) ws ms ws' ms'
-    → Does round.stops round.routes
-    (applied round.direction (round.number * round.stops) here.stop (reach_in round.direction w a.row here.position)
-    (ride_leg round.direction (net_of w) here.route a here.stop (reach_in round.direction w a.row here.position)))
-    ws ms ws' ms'
-proposed w round here a e f k = rw (f, e) at k
+    → y ≡ applied round.direction (round.number * stops) here.stop t g x
+    → y
+    ≡ applied round.direction (round.number * stops) here.stop (reach_in round.direction w a.row here.position)
+    (ride_leg round.direction (net_of w) here.route a here.stop (reach_in round.direction w a.row here.position)) x
+proposed w round here a x stops e f k = rw (f, e) at k
 
 -- ---- a trip is aboard, and comes to the stop of this position
-module _ {w stops : List ℕ} {round : Round} {here : Call} {a : Ride} (h : Riding w round here.route stops) (q : OnRoute w here)
+module _ {w : List ℕ} {here : Call} {a : Ride} (round : Round) (space : Workspace) (fixed : Fixed w space.stops space.routes) (q : OnRoute w here)
     (z : Seated w here.route a) where
   alight_on : (a.place ≡ MAX → ⊥) → (x : Work)
       → alight_work round.direction (net_of w) round.number round.target.0 here.route here.position (aboard a) x
-      ≡ offered round.direction (round.number * round.stops) round.target.0 here.stop (reach_in round.direction w a.row here.position)
+      ≡ offered round.direction (round.number * space.stops) round.target.0 here.stop (reach_in round.direction w a.row here.position)
       (ride_leg round.direction (net_of w) here.route a here.stop (reach_in round.direction w a.row here.position)) x
   unfolding alight_work ride_leg
   alight_on e x =
       let is = reach_is w a.trip here.position (seat_on z e).times round.direction refl in
-      rw (aboard_on a e, q.stop, h.in_round.fixed.net_stops, is)
+      rw (aboard_on a e, q.stop, fixed.net_stops, is)
 
-  module _ (ws : List ℕ) {seen : Seen}
-      (f : seen ≡ look_at round.direction w round.target.0 (get_or (best_of round.stops round.routes ws) here.stop 0) here a) where
+  module _ {seen : Seen}
+      (f : seen ≡ look_at round.direction w round.target.0 (get_or (best space) here.stop 0) here a) where
     looked : seen.proposes
         ≡ cond (eqb a.place MAX) false
         (ahead round.direction (reach_in round.direction w a.row here.position) round.target.0
-        && better round.direction (reach_in round.direction w a.row here.position) (get_or (best_of round.stops round.routes ws) here.stop 0))
+        && better round.direction (reach_in round.direction w a.row here.position) (get_or (best space) here.stop 0))
     unfolding look_at proposes_at
     looked = ap (λ (y : Seen). y.proposes) f
 
     -- the target or the stop has seen as good, or nobody is aboard
-    pub alight_not : {ms : List ℕ} → seen.proposes ≡ false → Usable round.stops round.routes ws ms
-        → Does round.stops round.routes
-        (alight_work round.direction (net_of w) round.number round.target.0 here.route here.position (aboard a)) ws ms ws ms
+    pub alight_not : seen.proposes ≡ false
+        → state space ≡ alight_work round.direction (net_of w) round.number round.target.0 here.route here.position (aboard a) (state space)
     unfolding wins view
-    alight_not {ms} g u =
-        let x = view round.stops round.routes ws ms in
+    alight_not g =
+        let x = state space in
         let t = reach_in round.direction w a.row here.position in
         let leg = ride_leg round.direction (net_of w) here.route a here.stop t in
-        split (eqb a.place MAX) (λ e. alight_off w round here a (eqb-true a.place MAX e) u)
-        (λ e. record {
-          holds =
-              sym (alight_on (eqb-false a.place MAX e) x
-              ∙ offer_not round.direction (round.number * round.stops) round.target.0 here.stop t leg x (rw e at (sym looked ∙ g)));
-          usable = u;
-        })
+        split (eqb a.place MAX) (λ e. alight_off w round here x a (eqb-true a.place MAX e))
+        (λ e.
+        sym (alight_on (eqb-false a.place MAX e) x
+        ∙ offer_not round.direction (round.number * space.stops) round.target.0 here.stop t leg x (rw e at (sym looked ∙ g))))
 
     module _ (g : seen.proposes ≡ true) where
       seen_real : a.place ≡ MAX → ⊥
@@ -115,17 +111,15 @@ module _ {w stops : List ℕ} {round : Round} {here : Call} {a : Ride} (h : Ridi
       pub seen_seat : Seat w here.route a
       seen_seat = seat_on z seen_real
 
-      pub alight_take : {ms ws' ms' : List ℕ}
-          → Does round.stops round.routes
-          (applied round.direction (round.number * round.stops) here.stop (reach_in round.direction w a.row here.position)
-          (ride_leg round.direction (net_of w) here.route a here.stop (reach_in round.direction w a.row here.position)))
-          ws ms ws' ms'
-          → Does round.stops round.routes
-          (alight_work round.direction (net_of w) round.number round.target.0 here.route here.position (aboard a)) ws ms ws' ms'
-      alight_take {ms} k =
-          let x = view round.stops round.routes ws ms in
+      pub alight_take : {y : Work}
+          → y
+          ≡ applied round.direction (round.number * space.stops) here.stop (reach_in round.direction w a.row here.position)
+          (ride_leg round.direction (net_of w) here.route a here.stop (reach_in round.direction w a.row here.position)) (state space)
+          → y ≡ alight_work round.direction (net_of w) round.number round.target.0 here.route here.position (aboard a) (state space)
+      alight_take k =
+          let x = state space in
           let t = reach_in round.direction w a.row here.position in
           let leg = ride_leg round.direction (net_of w) here.route a here.stop t in
           let fits = rw (ne_eqb a.place MAX seen_real) at (sym looked ∙ g) in
-          let taken = offer_ahead round.direction (round.number * round.stops) round.target.0 here.stop t leg x (and_left _ _ fits) in
-          record { holds = k.holds ∙ sym (alight_on seen_real x ∙ taken); usable = k.usable }
+          let taken = offer_ahead round.direction (round.number * space.stops) round.target.0 here.stop t leg x (and_left _ _ fits) in
+          k ∙ sym (alight_on seen_real x ∙ taken)

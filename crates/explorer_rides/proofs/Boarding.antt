@@ -8,16 +8,17 @@ use lib.Dec.{leb, eqb}
 use lib.ListN.{get_or}
 use borrow.Author.Tests.{le-leb, eq-eqb, ne_eqb, eqb-true, eqb-false}
 use Rattle.base.proofs.Choice.{split}
-use Rattle.model.specs.declared.Aboard.{Aboard}
-use Rattle.model.specs.declared.Aboard.TheVariants.{On, Off}
 use Rattle.model.specs.declared.Direction.{Direction}
 use Rattle.model.specs.declared.Direction.TheVariants.{Departure, Arrival}
 use Rattle.model.specs.Moments.{MAX, or_max, reading}
-use Rattle.model.specs.Rides.{leave, catch, allows, boarded, board}
+use Rattle.std.specs.Prelude.{Option, Some, None}
+use Rattle.model.specs.Rides.{Aboard, leave, catch, allows, boarded, board}
 use Rattle.model.specs.Tables.{Net}
 use Rattle.repository.specs.NetOf.{net_of}
 use Rattle.discovery.specs.Trips.{trip_place}
-use Rattle.allocator.specs.Layout.{prev_of, view}
+use Rattle.allocator.specs.Layout.{view}
+use Rattle.allocator.specs.Workspace.{state, prev}
+use Rattle.allocator.specs.declared.Workspace.{Workspace}
 use Rattle.explorer.specs.declared.Round.{Round}
 use Rattle.explorer_rides.specs.declared.Call.{Call}
 use Rattle.explorer_rides.specs.declared.Ride.{Ride}
@@ -39,7 +40,7 @@ positive : (x : ℕ) → (x ≡ 0 → ⊥) → 0 < x
 positive zero h = absurd (h refl)
 positive (suc x) h = omega arith
 
-module _ (d : Direction) (n : Net) (r p x : ℕ) (a : Aboard) (real : x ≡ 0 → ⊥) where
+module _ (d : Direction) (n : Net) (r p x : ℕ) (a : Option Aboard) (real : x ≡ 0 → ⊥) where
   stays : allows d n x p a ≡ false → a ≡ board_at d n r p x a
   unfolding board_at
   stays e = rw (reading_is d x real, e)
@@ -72,7 +73,7 @@ module _ (d : Direction) (w : List ℕ) (here : Call) (a : Ride) where
       (go d (leave_is w a.trip here.position s.times d et))
     where
       go : (d : Direction) {t : ℕ} → t ≡ leave d (net_of w) a.trip here.position
-          → meets d t here.label.0 ≡ allows d (net_of w) here.label.0 here.position (On a.trip a.since)
+          → meets d t here.label.0 ≡ allows d (net_of w) here.label.0 here.position (Some (record { trip = a.trip; since = a.since }))
       go Departure e = unfold allows leave in rw e
       go Arrival e = unfold allows leave in rw e
 
@@ -80,7 +81,7 @@ module _ (d : Direction) (w : List ℕ) (here : Call) (a : Ride) where
   unfolding catches_at allows
   catches_off l e = rw (aboard_off a e) (go (eqb here.label.0 0) d)
     where
-      go : (b : Bool) (d : Direction) → not b ≡ cond b false (allows d (net_of w) here.label.0 here.position Off)
+      go : (b : Bool) (d : Direction) → not b ≡ cond b false (allows d (net_of w) here.label.0 here.position None)
       go true d = refl
       go false Departure = sym (le-leb here.label.0 MAX (omega arith))
       go false Arrival = refl
@@ -116,7 +117,7 @@ module _ (d : Direction) (w : List ℕ) (here : Call) (a : Ride) where
         let real = eqb-false here.label.0 0 z in
         stays d (net_of w) here.route here.position here.label.0 (aboard a) real (sym (catches_real real) ∙ sym e ∙ f))
 
-    pub board_on : {u : Aboard} → c ≡ true → u ≡ boarded here.position (aboard a) (catch d (net_of w) here.route here.position here.label.0)
+    pub board_on : {u : Option Aboard} → c ≡ true → u ≡ boarded here.position (aboard a) (catch d (net_of w) here.route here.position here.label.0)
         → u ≡ board_at d (net_of w) here.route here.position here.label.0 (aboard a)
     board_on f g =
         g
@@ -142,9 +143,9 @@ module _ (d : Direction) (w : List ℕ) (target best : ℕ) (here : Call) (a : R
   look_catches e = ap (λ (y : Seen). y.catches) e
 
 -- ---- the label that was read
-pub board_is : (w : List ℕ) (round : Round) (here : Call) (ws ms : List ℕ) (a : Aboard) {e : Aboard} → OnRoute w here
-    → here.label.0 ≡ get_or (prev_of round.stops round.routes ws) here.stop 0
+pub board_is : (w : List ℕ) (round : Round) (here : Call) (space : Workspace) (a : Option Aboard) {e : Option Aboard} → OnRoute w here
+    → here.label.0 ≡ get_or (prev space) here.stop 0
     → e ≡ board_at round.direction (net_of w) here.route here.position here.label.0 a
-    → e ≡ board round.direction (net_of w) (view round.stops round.routes ws ms).prev here.route here.position a
+    → e ≡ board round.direction (net_of w) (state space).prev here.route here.position a
 unfolding board board_at view
-board_is w round here ws ms a q ex f = f ∙ rw (ex, q.stop)
+board_is w round here space a q ex f = f ∙ rw (ex, q.stop)

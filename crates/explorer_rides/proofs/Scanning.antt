@@ -10,7 +10,7 @@ use lib.ListN.{length, get_or}
 use borrow.Author.Tests.{eq-eqb, ne_eqb, eqb-true, eqb-false}
 use Rattle.base.proofs.Choice.{split}
 use Rattle.shared.specs.declared.Time.{Time}
-use Rattle.model.specs.declared.Aboard.TheVariants.{Off}
+use Rattle.std.specs.Prelude.{None}
 use Rattle.model.specs.declared.Direction.{Direction}
 use Rattle.model.specs.declared.Direction.TheVariants.{Departure, Arrival}
 use Rattle.model.specs.Lists.{upto, downto}
@@ -19,8 +19,11 @@ use Rattle.model.specs.Moments.{MAX}
 use Rattle.model.specs.Rides.{board, course}
 use Rattle.repository.specs.NetOf.{net_of}
 use Rattle.repository.specs.Laid.{Laid}
-use Rattle.allocator.specs.Layout.{view}
-use Rattle.allocator.specs.Does.{Usable, Does}
+use Rattle.allocator.specs.Workspace.{state, SameSlices, Becomes}
+use Rattle.allocator.specs.declared.Workspace.{Workspace}
+use Rattle.allocator.proofs.Becoming.{same_self, same_then}
+use Rattle.explorer.specs.Fixed.{Fixed}
+use Rattle.explorer.proofs.Fixed.{fixed_same}
 use Rattle.explorer.specs.declared.Round.{Round}
 use Rattle.explorer.specs.Fused.{alight_work, scan_work}
 use Rattle.explorer_rides.specs.declared.Ride.{Ride}
@@ -97,7 +100,7 @@ module _ {w stops : List ℕ} {round : Round} {r : ℕ} (h : Rideable w round r 
   known_riding = h.known tt
 
   pub known_laid : Laid w
-  known_laid = known_riding.in_round.fixed.searchable.laid
+  known_laid = known_riding.searchable.laid
 
   pub known_route : r < (net_of w).routes
   known_route = known_riding.route
@@ -105,8 +108,8 @@ module _ {w stops : List ℕ} {round : Round} {r : ℕ} (h : Rideable w round r 
   pub known_room : {q : ℕ} → q < (net_of w).positions r → q < length stops
   known_room l = stop_room known_riding l
 
-  pub known_stop : {q : ℕ} → q < (net_of w).positions r → get_or stops q 0 < round.stops
-  known_stop {q} l = call_in {here = record { route = r; position = q; stop = get_or stops q 0; label = record { 0 = 0 } }} known_riding (call_at known_riding l)
+  pub known_stop : {many routes : ℕ} {q : ℕ} → Fixed w many routes → q < (net_of w).positions r → get_or stops q 0 < many
+  known_stop {q = q} f l = call_in {here = record { route = r; position = q; stop = get_or stops q 0; label = record { 0 = 0 } }} f (call_at known_riding l)
 
   pub known_call : {q : ℕ} {x : Time} → q < (net_of w).positions r
       → OnRoute w (record { route = r; position = q; stop = get_or stops q 0; label = x })
@@ -150,41 +153,38 @@ module _ {w stops : List ℕ} {round : Round} {r : ℕ} (h : Rideable w round r 
       pub within_on : Within round.direction (net_of w) r q
       within_on = rw e (next_within (net_of w) r few_positions round.direction p l)
 
-module _ (w : List ℕ) (round : Round) (r : ℕ) (whole ws₀ ms₀ : List ℕ) where
-  pub record Along (ws ms : List ℕ) (ride : Ride) (ps : List ℕ) : Type 0 where
-    pub rest : scan_work round.direction (net_of w) round.number round.target.0 r ps (aboard ride) (view round.stops round.routes ws ms)
-        ≡ scan_work round.direction (net_of w) round.number round.target.0 r whole Off
-        (view round.stops round.routes ws₀ ms₀)
-    pub usable : Usable round.stops round.routes ws ms
+-- the workspace `first` became `space`, which lies over the same words and marks
+module _ (w : List ℕ) (round : Round) (r : ℕ) (whole : List ℕ) (first : Workspace) where
+  pub record Along (space : Workspace) (ride : Ride) (ps : List ℕ) : Type 0 where
+    pub rest : scan_work round.direction (net_of w) round.number round.target.0 r ps (aboard ride) (state space)
+        ≡ scan_work round.direction (net_of w) round.number round.target.0 r whole None (state first)
+    pub same : SameSlices first space
     pub seated : Seated w r ride
 
-module _ {w : List ℕ} {round : Round} {r : ℕ} {whole ws₀ ms₀ : List ℕ} where
-  pub along_start : {ps : List ℕ} → Usable round.stops round.routes ws₀ ms₀ → ps ≡ whole
-      → Along w round r whole ws₀ ms₀ ws₀ ms₀ (record { trip = 0; since = 0; row = 0; place = MAX }) ps
-  along_start u e = record {
+module _ {w : List ℕ} {round : Round} {r : ℕ} {whole : List ℕ} {first : Workspace} where
+  pub along_start : {ps : List ℕ} → ps ≡ whole
+      → Along w round r whole first first (record { trip = 0; since = 0; row = 0; place = MAX }) ps
+  along_start e = record {
     rest = rw (e, aboard_off (record { trip = 0; since = 0; row = 0; place = MAX }) refl);
-    usable = u;
+    same = same_self;
     seated = record { seat = λ real. absurd (real refl) };
   }
 
-  pub along_step : {ws ms ws' ms' ps qs : List ℕ} {a b : Ride} {p : ℕ}
-      → Along w round r whole ws₀ ms₀ ws ms a ps → ps ≡ p ∷ qs
-      → Does round.stops round.routes (alight_work round.direction (net_of w) round.number round.target.0 r p (aboard a)) ws ms ws' ms'
-      → aboard b ≡ board round.direction (net_of w) (view round.stops round.routes ws ms).prev r p (aboard a) → Seated w r b
-      → Along w round r whole ws₀ ms₀ ws' ms' b qs
-  unfolding scan_work
-  along_step h e f i z = record {
-    rest = rw (f.holds, i) (rw e at h.rest);
-    usable = f.usable;
-    seated = z;
-  }
+  module _ {space : Workspace} {ps : List ℕ} {a : Ride} (h : Along w round r whole first space a ps) where
+    pub along_step : {space' : Workspace} {qs : List ℕ} {b : Ride} {p : ℕ} → ps ≡ p ∷ qs
+        → Becomes (alight_work round.direction (net_of w) round.number round.target.0 r p (aboard a)) space space'
+        → aboard b ≡ board round.direction (net_of w) (state space).prev r p (aboard a) → Seated w r b
+        → Along w round r whole first space' b qs
+    unfolding scan_work
+    along_step e f i z = record {
+      rest = rw (f.holds, i) (rw e at h.rest);
+      same = same_then h.same f.same;
+      seated = z;
+    }
 
-  pub along_end : {ws ms ps : List ℕ} {a : Ride} → Along w round r whole ws₀ ms₀ ws ms a ps → ps ≡ []
-      → Does round.stops round.routes
-      (scan_work round.direction (net_of w) round.number round.target.0 r whole Off)
-      ws₀ ms₀ ws ms
-  unfolding scan_work
-  along_end h e = record { holds = rw e at h.rest; usable = h.usable }
+    pub along_end : ps ≡ [] → Becomes (scan_work round.direction (net_of w) round.number round.target.0 r whole None) first space
+    unfolding scan_work
+    along_end e = record { holds = rw e at h.rest; same = h.same }
 
-  pub along_usable : {ws ms ps : List ℕ} {a : Ride} → Along w round r whole ws₀ ms₀ ws ms a ps → Usable round.stops round.routes ws ms
-  along_usable h = h.usable
+    pub along_fixed : Fixed w first.stops first.routes → Fixed w space.stops space.routes
+    along_fixed f = fixed_same h.same f

@@ -5,7 +5,7 @@ use mathlib.Core.List.{List}
 use native.Mathlib.Omega.{arith}
 use lib.ListN.{length, get_or}
 use borrow.Author.Tests.{eq-eqb, ne_eqb}
-use Rattle.model.specs.declared.Aboard.TheVariants.{On, Off}
+use Rattle.std.specs.Prelude.{Some, None}
 use Rattle.model.specs.Moments.{MAX}
 use Rattle.repository.specs.NetOf.{net_of}
 use Rattle.shared.specs.declared.Time.{Time}
@@ -15,6 +15,7 @@ use Rattle.repository.specs.Readable.{Searchable}
 use Rattle.repository.proofs.Trips.{time_known, place_few}
 use Rattle.base.proofs.Tab.{tab_length, tab_at}
 use Rattle.explorer.specs.declared.Round.{Round}
+use Rattle.explorer.specs.Fixed.{Fixed}
 use Rattle.explorer_rides.specs.declared.Call.{Call}
 use Rattle.explorer_rides.specs.declared.Ride.{Ride}
 use Rattle.explorer_rides.specs.Riding.{aboard, Seat, Seated, OnRoute, Riding}
@@ -33,11 +34,10 @@ module _ {w stops : List ℕ} {round : Round} {r : ℕ} (h : Riding w round r st
         ap (λ (x : List ℕ). get_or x p 0) h.along ∙ tab_at ((net_of w).stop_at r) ((net_of w).positions r) p 0 l
 
     pub call_at : {x : Time} → OnRoute w (record { route = r; position = p; stop = get_or stops p 0; label = x })
-    call_at = record { searchable = h.in_round.fixed.searchable; route = h.route; position = l; stop = stop_read }
+    call_at = record { searchable = h.searchable; route = h.route; position = l; stop = stop_read }
 
-pub call_in : {w stops : List ℕ} {round : Round} {here : Call} → Riding w round here.route stops → OnRoute w here
-    → here.stop < round.stops
-call_in h q = rw h.in_round.fixed.net_stops (stop_known q.searchable q.route q.position q.stop)
+pub call_in : {w : List ℕ} {stops routes : ℕ} {here : Call} → Fixed w stops routes → OnRoute w here → here.stop < stops
+call_in f q = rw f.net_stops (stop_known q.searchable q.route q.position q.stop)
 
 -- ---- the trip aboard
 module _ {w : List ℕ} {r : ℕ} {ride : Ride} (s : Seat w r ride) where
@@ -48,7 +48,7 @@ module _ {w : List ℕ} {r : ℕ} {ride : Ride} (s : Seat w r ride) where
   seat_room h = stop_room h s.since
 
   pub seat_times : {round : Round} {stops : List ℕ} → Riding w round r stops → ride.row + ride.since < time_count w
-  seat_times h = time_known h.in_round.fixed.searchable h.route seat_trip s.since s.times
+  seat_times h = time_known h.searchable h.route seat_trip s.since s.times
 
 module _ {w : List ℕ} {r : ℕ} {ride : Ride} (z : Seated w r ride) (e : ride.place ≡ MAX → ⊥) where
   pub seat_on : Seat w r ride
@@ -66,10 +66,10 @@ pub seat_real : {w : List ℕ} {here : Call} {a : Ride} → OnRoute w here → S
 seat_real q s = place_real q.searchable q.route s.place
 
 module _ (a : Ride) where
-  pub aboard_on : (a.place ≡ MAX → ⊥) → aboard a ≡ On a.trip a.since
+  pub aboard_on : (a.place ≡ MAX → ⊥) → aboard a ≡ Some (record { trip = a.trip; since = a.since })
   unfolding aboard
   aboard_on e = rw (ne_eqb a.place MAX e)
 
-  pub aboard_off : a.place ≡ MAX → aboard a ≡ Off
+  pub aboard_off : a.place ≡ MAX → aboard a ≡ None
   unfolding aboard
   aboard_off e = rw (eq-eqb a.place MAX e)

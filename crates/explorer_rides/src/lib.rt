@@ -8,13 +8,12 @@ pub mod route; // route.rt: a route from its mark, one position after the other
 
 ghost use Rattle.model.specs.Choosing.{Placed};
 ghost use Rattle.repository.specs.NetOf.{net_of};
-ghost use Rattle.allocator.specs.Layout.{view};
-ghost use Rattle.allocator.specs.Does.{Usable, Does};
+ghost use Rattle.allocator.specs.Workspace.{state, Becomes};
 ghost use Rattle.explorer.specs.Fixed.{InRound};
 ghost use Rattle.explorer.specs.Fused.{rides_work};
 
+use allocator::Workspace;
 use explorer::Round;
-use marks::Next;
 use shared::Time;
 
 // Who is aboard: a trip since a position of the route, with the first row of the trip's times and its place in the route's order, where
@@ -37,23 +36,16 @@ pub struct Call {
 }
 
 // The routes that the round chose, ascending.
-pub fn explore_routes(tables: &[u32], words: &mut [u32], marks: &mut [u64], round: Round)
-    requires in_round { InRound tables.now round }
-    requires usable { Usable round.stops round.routes words.old marks.old }
-    requires placed { Placed round.direction (net_of tables.now) (view round.stops round.routes words.old marks.old) }
-    ensures { Does round.stops round.routes
+pub fn explore_routes(tables: &[u32], workspace: &mut Workspace, round: Round)
+    requires in_round { InRound tables.now workspace.old.stops workspace.old.routes round }
+    requires placed { Placed round.direction (net_of tables.now) (state workspace.old) }
+    ensures { Becomes
         (rides_work round.direction (net_of tables.now) round.number round.target.0)
-        words.old marks.old words.new marks.new }
+        workspace.old workspace.new }
 {
     let mut from: usize = 0;
-    loop {
-        let next = allocator::next_route(marks, round.stops, round.routes, from);
-        match next {
-            Next::At(r) => {
-                route::explore_route(tables, words, marks, round, r as u32);
-                from = r + 1;
-            }
-            Next::Nothing => return,
-        }
+    while let Some(r) = workspace.next_route(from) {
+        route::explore_route(tables, workspace, round, r as u32);
+        from = r + 1;
     }
 }

@@ -3,13 +3,14 @@
 ghost use Rattle.std.specs.Prelude.{◌≡◌, ◌<◌, get_or};
 ghost use Rattle.model.specs.Rides.{board as boards};
 ghost use Rattle.repository.specs.NetOf.{net_of};
-ghost use Rattle.allocator.specs.Layout.{Words, prev_of, best_of, view};
-ghost use Rattle.allocator.specs.Does.{Usable, Does};
+ghost use Rattle.allocator.specs.Workspace.{state, prev, best, Becomes};
+ghost use Rattle.explorer.specs.Fixed.{Fixed};
 ghost use Rattle.explorer.specs.Fused.{alight_work};
 ghost use Rattle.explorer_rides.specs.Riding.{aboard, Seat, Seated, OnRoute, Riding, board_at};
 ghost use Rattle.explorer_rides.specs.Looking.{meets, proposes_at, catches_at, look_at, rides_on};
 
 use super::{Call, Ride};
+use allocator::Workspace;
 use explorer::Round;
 use model::Direction;
 use shared::Time;
@@ -24,7 +25,7 @@ pub struct Seen {
 // Whether the moment at which the trip aboard comes here passes both tests: against the target, and against the best moment of the stop.
 fn proposes(
     tables: &[u32],
-    words: &[u32],
+    workspace: &Workspace,
     round: Round,
     d: Direction,
     here: Call,
@@ -32,15 +33,14 @@ fn proposes(
 ) -> bool
     requires on_route { OnRoute tables.now here }
     requires seat { Seat tables.now here.route ride }
-    requires words { Words round.stops round.routes words.now }
-    requires stop_lt_stops { here.stop < round.stops }
+    requires stop_lt_stops { here.stop < workspace.now.stops }
     ensures { result
         ≡ proposes_at d tables.now round.target.0
-        (get_or (best_of round.stops round.routes words.now) here.stop 0) here ride }
+        (get_or (best workspace.now) here.stop 0) here ride }
 {
     let t = super::seat::reaches_at(tables, d, ride.row, here.position);
     if allocator::is_ahead(d, t, round.target) {
-        let best = allocator::best_at(words, round.stops, round.routes, here.stop);
+        let best = workspace.best(here.stop);
         return allocator::is_better(d, t, best);
     }
     false
@@ -73,7 +73,7 @@ fn catches(tables: &[u32], d: Direction, here: Call, ride: Ride) -> bool
 // Both, where a trip is aboard. The caller names the direction, so that the compiler makes code for each of the two.
 fn look_by(
     tables: &[u32],
-    words: &[u32],
+    workspace: &Workspace,
     round: Round,
     d: Direction,
     here: Call,
@@ -81,13 +81,12 @@ fn look_by(
 ) -> Seen
     requires on_route { OnRoute tables.now here }
     requires seat { Seat tables.now here.route ride }
-    requires words { Words round.stops round.routes words.now }
-    requires stop_lt_stops { here.stop < round.stops }
+    requires stop_lt_stops { here.stop < workspace.now.stops }
     ensures { result
         ≡ look_at d tables.now round.target.0
-        (get_or (best_of round.stops round.routes words.now) here.stop 0) here ride }
+        (get_or (best workspace.now) here.stop 0) here ride }
 {
-    if proposes(tables, words, round, d, here, ride) {
+    if proposes(tables, workspace, round, d, here, ride) {
         let also = catches(tables, d, here, ride);
         return Seen {
             proposes: true,
@@ -102,14 +101,13 @@ fn look_by(
 }
 
 // Both; where nobody is aboard, every label catches.
-fn look(tables: &[u32], words: &[u32], round: Round, here: Call, ride: Ride) -> Seen
+fn look(tables: &[u32], workspace: &Workspace, round: Round, here: Call, ride: Ride) -> Seen
     requires on_route { OnRoute tables.now here }
     requires seated { Seated tables.now here.route ride }
-    requires words { Words round.stops round.routes words.now }
-    requires stop_lt_stops { here.stop < round.stops }
+    requires stop_lt_stops { here.stop < workspace.now.stops }
     ensures { result
         ≡ look_at round.direction tables.now round.target.0
-        (get_or (best_of round.stops round.routes words.now) here.stop 0) here ride }
+        (get_or (best workspace.now) here.stop 0) here ride }
 {
     if ride.place == repository::MAX {
         let label = here.label;
@@ -120,34 +118,33 @@ fn look(tables: &[u32], words: &[u32], round: Round, here: Call, ride: Ride) -> 
     }
     let d = round.direction;
     match d {
-        Direction::Departure => look_by(tables, words, round, Direction::Departure, here, ride),
-        Direction::Arrival => look_by(tables, words, round, Direction::Arrival, here, ride),
+        Direction::Departure => look_by(tables, workspace, round, Direction::Departure, here, ride),
+        Direction::Arrival => look_by(tables, workspace, round, Direction::Arrival, here, ride),
     }
 }
 
 // Who is aboard proposes when the trip comes to the stop of this position. Given back is whether the label catches a trip there.
 fn alight(
     tables: &[u32],
-    words: &mut [u32],
-    marks: &mut [u64],
+    workspace: &mut Workspace,
     stops: &[u32],
     round: Round,
     here: Call,
     ride: Ride,
 ) -> bool
+    requires fixed { Fixed tables.now workspace.old.stops workspace.old.routes }
     requires riding { Riding tables.now round here.route stops.now }
     requires on_route { OnRoute tables.now here }
     requires seated { Seated tables.now here.route ride }
-    requires usable { Usable round.stops round.routes words.old marks.old }
-    ensures does { Does round.stops round.routes
+    ensures does { Becomes
         (alight_work round.direction (net_of tables.now) round.number round.target.0
         here.route here.position (aboard ride))
-        words.old marks.old words.new marks.new }
+        workspace.old workspace.new }
     ensures value { result ≡ catches_at round.direction tables.now here ride }
 {
-    let seen = look(tables, words, round, here, ride);
+    let seen = look(tables, workspace, round, here, ride);
     if seen.proposes {
-        super::seat::propose(tables, words, marks, stops, round, here, ride);
+        super::seat::propose(tables, workspace, stops, round, here, ride);
         return seen.catches;
     }
     seen.catches
@@ -172,29 +169,28 @@ fn board(tables: &[u32], round: Round, here: Call, ride: Ride, catches: bool) ->
 // One position.
 pub fn ride_at(
     tables: &[u32],
-    words: &mut [u32],
-    marks: &mut [u64],
+    workspace: &mut Workspace,
     stops: &[u32],
     round: Round,
     here: Call,
     ride: Ride,
 ) -> Ride
+    requires fixed { Fixed tables.now workspace.old.stops workspace.old.routes }
     requires riding { Riding tables.now round here.route stops.now }
     requires on_route { OnRoute tables.now here }
-    requires label_value { here.label.0 ≡ get_or (prev_of round.stops round.routes words.old) here.stop 0 }
+    requires label_value { here.label.0 ≡ get_or (prev workspace.old) here.stop 0 }
     requires seated { Seated tables.now here.route ride }
-    requires usable { Usable round.stops round.routes words.old marks.old }
-    ensures does { Does round.stops round.routes
+    ensures does { Becomes
         (alight_work round.direction (net_of tables.now) round.number round.target.0
         here.route here.position (aboard ride))
-        words.old marks.old words.new marks.new }
+        workspace.old workspace.new }
     ensures value { result ≡ rides_on round.direction tables.now here ride }
     ensures result_value { aboard result
         ≡ boards round.direction (net_of tables.now)
-        (view round.stops round.routes words.old marks.old).prev
+        (state workspace.old).prev
         here.route here.position (aboard ride) }
     ensures seated_2 { Seated tables.now here.route result }
 {
-    let caught = alight(tables, words, marks, stops, round, here, ride);
+    let caught = alight(tables, workspace, stops, round, here, ride);
     board(tables, round, here, ride, caught)
 }

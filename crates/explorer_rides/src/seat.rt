@@ -1,24 +1,23 @@
 // A seat on a trip: it is caught at a position, and proposes the stops that the trip comes to.
-ghost use Rattle.std.specs.Prelude.{◌≡◌, ◌+◌, ◌*◌, ◌<◌};
+ghost use Rattle.std.specs.Prelude.{◌≡◌, ◌+◌, ◌*◌, ◌<◌, Some};
 ghost use Rattle.repository.specs.Laid.{Laid};
 ghost use Rattle.repository.specs.NetOf.{net_of};
 ghost use Rattle.repository.specs.Rows.{time_count};
-ghost use Rattle.discovery.specs.declared.Trip.TheVariants.{At};
 ghost use Rattle.discovery.specs.Trips.{trip_place};
-ghost use Rattle.allocator.specs.Does.{Usable, Does};
+ghost use Rattle.allocator.specs.Workspace.{Becomes};
 ghost use Rattle.allocator.specs.Operations.{applied};
+ghost use Rattle.explorer.specs.Fixed.{Fixed};
 ghost use Rattle.explorer_rides.specs.Riding.{Seat, Seated, caught, ride_leg, OnRoute, Riding, reach_in, leave_in};
 
 use super::{Call, Ride};
-use allocator::Offer;
-use discovery::Trip;
+use allocator::{Offer, Workspace};
 use explorer::Round;
 use model::{Direction, Leg, LegType};
 use shared::Time;
 
 // The first trip that arrives at the position not before the label; in an arrival search the last not after it. The trip at place `near`
 // is looked at first.
-fn find_trip(tables: &[u32], round: Round, here: Call, near: u32) -> Trip
+fn find_trip(tables: &[u32], round: Round, here: Call, near: u32) -> Option<u32>
     requires on_route { OnRoute tables.now here }
     requires label_nonzero { 0 < here.label.0 }
     ensures { result
@@ -39,13 +38,13 @@ fn seat_at(tables: &[u32], here: Call, ride: Ride, i: u32) -> Ride
     requires on_route { OnRoute tables.now here }
     requires seated { Seated tables.now here.route ride }
     requires i_bound { i < (net_of tables.now).trips here.route }
-    ensures { result ≡ caught tables.now here.route here.position ride (At i) }
+    ensures { result ≡ caught tables.now here.route here.position ride (Some i) }
 {
     let since = here.position;
     if i == ride.place {
         return Ride {
             trip: ride.trip,
-            since: since,
+            since,
             row: ride.row,
             place: i,
         };
@@ -53,7 +52,7 @@ fn seat_at(tables: &[u32], here: Call, ride: Ride, i: u32) -> Ride
     let v = repository::routes::trip_at(tables, here.route, i);
     Ride {
         trip: v,
-        since: since,
+        since,
         row: repository::times::time_row(tables, v),
         place: i,
     }
@@ -68,10 +67,9 @@ pub fn catch_trip(tables: &[u32], round: Round, here: Call, ride: Ride) -> Ride
         ≡ caught tables.now here.route here.position ride
         (trip_place round.direction (net_of tables.now) here.route here.position here.label.0) }
 {
-    let found = find_trip(tables, round, here, ride.place);
-    match found {
-        Trip::At(i) => seat_at(tables, here, ride, i),
-        Trip::Nothing => ride,
+    match find_trip(tables, round, here, ride.place) {
+        Some(i) => seat_at(tables, here, ride, i),
+        None => ride,
     }
 }
 
@@ -115,23 +113,22 @@ fn leg_from(tables: &[u32], stops: &[u32], round: Round, here: Call, t: Time, ri
 // The trip aboard comes here.
 pub fn propose(
     tables: &[u32],
-    words: &mut [u32],
-    marks: &mut [u64],
+    workspace: &mut Workspace,
     stops: &[u32],
     round: Round,
     here: Call,
     ride: Ride,
 )
-    requires usable { Usable round.stops round.routes words.old marks.old }
+    requires fixed { Fixed tables.now workspace.old.stops workspace.old.routes }
     requires riding { Riding tables.now round here.route stops.now }
     requires on_route { OnRoute tables.now here }
     requires seat { Seat tables.now here.route ride }
-    ensures { Does round.stops round.routes
-        (applied round.direction (round.number * round.stops) here.stop
+    ensures { Becomes
+        (applied round.direction (round.number * workspace.old.stops) here.stop
         (reach_in round.direction tables.now ride.row here.position)
         (ride_leg round.direction (net_of tables.now) here.route ride here.stop
         (reach_in round.direction tables.now ride.row here.position)))
-        words.old marks.old words.new marks.new }
+        workspace.old workspace.new }
 {
     let d = round.direction;
     let t = reaches_at(tables, d, ride.row, here.position);
@@ -141,13 +138,5 @@ pub fn propose(
         moment: t,
         leg: g,
     };
-    allocator::apply(
-        words,
-        marks,
-        round.stops,
-        round.routes,
-        d,
-        round.number,
-        offer,
-    );
+    workspace.apply(d, round.number, offer);
 }

@@ -2,7 +2,7 @@
 -- Assumes nothing.
 use Prim.Native.Nat.{ℕ}
 use mathlib.Core.Path.{◌≡◌}
-use mathlib.Core.Option.{some}
+use Rattle.std.specs.Prelude.{Some}
 use mathlib.Core.List.{List, [], ◌∷◌, ◌++◌}
 use native.Mathlib.Omega.{arith}
 use lib.ListN.{get_or}
@@ -34,10 +34,10 @@ named_paired : (names : List (List ℕ)) (t : List ℕ) → Each Paired names �
 named_paired names t f p = named_either names t (λ e. rw e f) (λ u e. rw e (each_append f (cons p nil)))
 
 -- the text of a column
-text_paired : (l : List ℕ) {ts : List (List ℕ)} {t : List ℕ} (i : ℕ) → fields l ≡ some ts → get_or ts i [] ≡ t → Paired t
+text_paired : (l : List ℕ) {ts : List (List ℕ)} {t : List ℕ} (i : ℕ) → fields l ≡ Some ts → get_or ts i [] ≡ t → Paired t
 text_paired l i s e = rw (← e) (paired_at (fields_paired l s) i)
 
-time_paired : (c : TimesColumns) (room : Room) (l : List ℕ) (x : TimeLine) (f g : Feed) (q : ℕ) → time_line c l ≡ some x
+time_paired : (c : TimesColumns) (room : Room) (l : List ℕ) (x : TimeLine) (f g : Feed) (q : ℕ) → time_line c l ≡ Some x
     → take_time room x f q ≡ kept g → NamesPaired f → NamesPaired g
 time_paired c room l x f g q e k p =
     let z = time_fields c l e in
@@ -55,8 +55,8 @@ times_paired : {c : TimesColumns} {room : Room} {ls : List (List ℕ)} {f g : Fe
 times_paired no_times p = p
 times_paired {c} {room} (times_more {l} {ls} {x} {f} {g} {f'} {q} e k t) p = times_paired t (time_paired c room l x f g q e k p)
 
-transfer_paired : (c : TransferColumns) (room : Room) (l : List ℕ) (x : TransferLine) (f g : Feed) → transfer_line c l ≡ some x
-    → take_transfer room x f ≡ some g → NamesPaired f → NamesPaired g
+transfer_paired : (c : TransferColumns) (room : Room) (l : List ℕ) (x : TransferLine) (f g : Feed) → transfer_line c l ≡ Some x
+    → take_transfer room x f ≡ Some g → NamesPaired f → NamesPaired g
 transfer_paired c room l x f g e k p =
     let z = transfer_fields c l e in
     let near = named_paired f.stops x.from p.stops (text_paired l c.from z.are z.from) in

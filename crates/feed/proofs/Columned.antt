@@ -3,7 +3,7 @@
 use Prim.Native.Nat.{ℕ, zero, suc, ◌+◌, ◌<◌}
 use mathlib.Core.Path.{◌≡◌, refl, sym, ap}
 use mathlib.Core.Bool.{true, false}
-use mathlib.Core.Option.{none, some}
+use Rattle.std.specs.Prelude.{None, Some}
 use mathlib.Core.List.{List, [], ◌∷◌}
 use native.Mathlib.Omega.{arith}
 use lib.ListN.{length, get_or}
@@ -100,25 +100,25 @@ module _ {ts : List (List ℕ)} {name : List ℕ} where
       let y : d.other ≡ i = o.only d.other (omega arith) d.there in
       absurd (omega arith)
 
-  is_only : {k : Column} {i : ℕ} → Stands ts name 0 k → only_place k ≡ some i → OnlyAt ts name i
+  is_only : {k : Column} {i : ℕ} → Stands ts name 0 k → only_place k ≡ Some i → OnlyAt ts name i
   unfolding only_place
   is_only (nowhere u) e = none_some e
   is_only {i} (once p o) e = let z : p ≡ i = omega (arith, some_is e) in rw (← z) o
   is_only (twice d) e = none_some e
 
-  is_not : {k : Column} → Stands ts name 0 k → only_place k ≡ none → NotOnce ts name
+  is_not : {k : Column} → Stands ts name 0 k → only_place k ≡ None → NotOnce ts name
   unfolding only_place
   is_not (nowhere u) e = lacking u
   is_not (once p o) e = none_some (sym e)
   is_not (twice d) e = doubled d
 
-  only_is : {k : Column} {i : ℕ} → Stands ts name 0 k → OnlyAt ts name i → only_place k ≡ some i
+  only_is : {k : Column} {i : ℕ} → Stands ts name 0 k → OnlyAt ts name i → only_place k ≡ Some i
   unfolding only_place
   only_is {i} (nowhere u) o = absurd (u.nowhere i o.inside o.here)
-  only_is {i} (once p q) o = let z : p ≡ i = o.only p q.inside q.here in let y : 0 + p ≡ i = omega arith in ap some y
+  only_is {i} (once p q) o = let z : p ≡ i = o.only p q.inside q.here in let y : 0 + p ≡ i = omega arith in ap Some y
   only_is (twice d) o = one_not_two o d
 
-  not_is : {k : Column} → Stands ts name 0 k → NotOnce ts name → only_place k ≡ none
+  not_is : {k : Column} → Stands ts name 0 k → NotOnce ts name → only_place k ≡ None
   unfolding only_place
   not_is (nowhere u) n = refl
   not_is (once p o) (lacking u) = absurd (u.nowhere p o.inside o.here)
@@ -127,28 +127,28 @@ module _ {ts : List (List ℕ)} {name : List ℕ} where
 
 -- ---- and one that may be missing
 module _ {ts : List (List ℕ)} where
-  any_at : {k : Column} {i : ℕ} → Stands ts min_transfer_time 0 k → any_place (length ts) k ≡ some i → SpanAt ts i
+  any_at : {k : Column} {i : ℕ} → Stands ts min_transfer_time 0 k → any_place (length ts) k ≡ Some i → SpanAt ts i
   unfolding any_place
   any_at (nowhere u) e = span_missing u (sym (some_is e))
   any_at {i} (once p o) e = let z : p ≡ i = omega (arith, some_is e) in span_there (rw (← z) o)
   any_at (twice d) e = none_some e
 
-  any_two : {k : Column} → Stands ts min_transfer_time 0 k → any_place (length ts) k ≡ none → AtTwo ts min_transfer_time
+  any_two : {k : Column} → Stands ts min_transfer_time 0 k → any_place (length ts) k ≡ None → AtTwo ts min_transfer_time
   unfolding any_place
   any_two (nowhere u) e = none_some (sym e)
   any_two (once p o) e = none_some (sym e)
   any_two (twice d) e = d
 
-  at_any : {k : Column} {i : ℕ} → Stands ts min_transfer_time 0 k → SpanAt ts i → any_place (length ts) k ≡ some i
+  at_any : {k : Column} {i : ℕ} → Stands ts min_transfer_time 0 k → SpanAt ts i → any_place (length ts) k ≡ Some i
   unfolding any_place
   at_any (nowhere u) (span_there o) = absurd (u.nowhere _ o.inside o.here)
-  at_any (nowhere u) (span_missing w e) = ap some (sym e)
-  at_any {i} (once p q) (span_there o) = let z : p ≡ i = o.only p q.inside q.here in let y : 0 + p ≡ i = omega arith in ap some y
+  at_any (nowhere u) (span_missing w e) = ap Some (sym e)
+  at_any {i} (once p q) (span_there o) = let z : p ≡ i = o.only p q.inside q.here in let y : 0 + p ≡ i = omega arith in ap Some y
   at_any (once p q) (span_missing w e) = absurd (w.nowhere p q.inside q.here)
   at_any (twice d) (span_there o) = one_not_two o d
   at_any (twice d) (span_missing w e) = absurd (w.nowhere d.one (let a = d.apart in let b = d.inside in omega arith) d.here)
 
-  two_any : {k : Column} → Stands ts min_transfer_time 0 k → AtTwo ts min_transfer_time → any_place (length ts) k ≡ none
+  two_any : {k : Column} → Stands ts min_transfer_time 0 k → AtTwo ts min_transfer_time → any_place (length ts) k ≡ None
   unfolding any_place
   two_any (nowhere u) d = absurd (u.nowhere d.one (let a = d.apart in let b = d.inside in omega arith) d.here)
   two_any (once p o) d = one_not_two o d
@@ -156,27 +156,27 @@ module _ {ts : List (List ℕ)} where
 
 -- ---- of the header's texts
 module _ (ts : List (List ℕ)) (name : List ℕ) where
-  pub place_only : {i : ℕ} → only_place (column_of name ts) ≡ some i → OnlyAt ts name i
+  pub place_only : {i : ℕ} → only_place (column_of name ts) ≡ Some i → OnlyAt ts name i
   place_only e = is_only (column_stands name ts) e
 
-  pub place_not : only_place (column_of name ts) ≡ none → NotOnce ts name
+  pub place_not : only_place (column_of name ts) ≡ None → NotOnce ts name
   place_not e = is_not (column_stands name ts) e
 
-  pub only_place_lem : {i : ℕ} → OnlyAt ts name i → only_place (column_of name ts) ≡ some i
+  pub only_place_lem : {i : ℕ} → OnlyAt ts name i → only_place (column_of name ts) ≡ Some i
   only_place_lem o = only_is (column_stands name ts) o
 
-  pub not_place : NotOnce ts name → only_place (column_of name ts) ≡ none
+  pub not_place : NotOnce ts name → only_place (column_of name ts) ≡ None
   not_place n = not_is (column_stands name ts) n
 
 module _ (ts : List (List ℕ)) where
-  pub place_span : {i : ℕ} → any_place (length ts) (column_of min_transfer_time ts) ≡ some i → SpanAt ts i
+  pub place_span : {i : ℕ} → any_place (length ts) (column_of min_transfer_time ts) ≡ Some i → SpanAt ts i
   place_span e = any_at (column_stands min_transfer_time ts) e
 
-  pub place_two : any_place (length ts) (column_of min_transfer_time ts) ≡ none → AtTwo ts min_transfer_time
+  pub place_two : any_place (length ts) (column_of min_transfer_time ts) ≡ None → AtTwo ts min_transfer_time
   place_two e = any_two (column_stands min_transfer_time ts) e
 
-  pub span_place : {i : ℕ} → SpanAt ts i → any_place (length ts) (column_of min_transfer_time ts) ≡ some i
+  pub span_place : {i : ℕ} → SpanAt ts i → any_place (length ts) (column_of min_transfer_time ts) ≡ Some i
   span_place s = at_any (column_stands min_transfer_time ts) s
 
-  pub two_place : AtTwo ts min_transfer_time → any_place (length ts) (column_of min_transfer_time ts) ≡ none
+  pub two_place : AtTwo ts min_transfer_time → any_place (length ts) (column_of min_transfer_time ts) ≡ None
   two_place d = two_any (column_stands min_transfer_time ts) d

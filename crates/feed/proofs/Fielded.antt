@@ -2,7 +2,7 @@
 -- Assumes nothing.
 use Prim.Native.Nat.{ℕ, zero, suc, ◌≤◌, ◌<◌}
 use mathlib.Core.Path.{◌≡◌, refl, sym, ap, ◌∙◌}
-use mathlib.Core.Option.{some}
+use Rattle.std.specs.Prelude.{Some}
 use mathlib.Core.List.{List, [], ◌∷◌, ◌++◌, append-nil, append_assoc}
 use native.Mathlib.Omega.{arith}
 use lib.ListN.{length, length-append}
@@ -63,7 +63,7 @@ unfolding field
 field_text ts nil = field_none ts
 field_text ts (cons {x = x} {xs = t} d h) = rw (ne_eqb x 34 (λ e. omega arith)) (plain_text ts (cons d h))
 
-from_last : (fuel : ℕ) {t : List ℕ} → Each Inner t → fields_from (suc fuel) (t ++ behind_commas []) ≡ some (t ∷ [])
+from_last : (fuel : ℕ) {t : List ℕ} → Each Inner t → fields_from (suc fuel) (t ++ behind_commas []) ≡ Some (t ∷ [])
 unfolding fields_from behind_commas
 from_last fuel {t} h =
     let e : field (t ++ []) ≡ taken t [] = field_text [] h in
@@ -77,7 +77,7 @@ from_more fuel {t} u us h =
     rw (e, fields_from)
 
 from_texts : (fuel : ℕ) {t : List ℕ} {ts : List (List ℕ)} → length ts < fuel → Each Inner t → Each (Each Inner) ts
-    → fields_from fuel (t ++ behind_commas ts) ≡ some (t ∷ ts)
+    → fields_from fuel (t ++ behind_commas ts) ≡ Some (t ∷ ts)
 unfolding with_field
 from_texts zero l h hs = absurd (omega arith)
 from_texts (suc fuel) l h nil = from_last fuel h
@@ -89,6 +89,6 @@ unfolding behind_commas
 commas t [] = omega arith
 commas t (u ∷ us) = omega (arith, length-append t (44 ∷ (u ++ behind_commas us)), commas u us)
 
-pub fields_with : {t : List ℕ} {ts : List (List ℕ)} → Each Inner t → Each (Each Inner) ts → fields (t ++ behind_commas ts) ≡ some (t ∷ ts)
+pub fields_with : {t : List ℕ} {ts : List (List ℕ)} → Each Inner t → Each (Each Inner) ts → fields (t ++ behind_commas ts) ≡ Some (t ∷ ts)
 unfolding fields
 fields_with {t} {ts} h hs = from_texts (suc (length (t ++ behind_commas ts))) (omega (arith, commas t ts)) h hs

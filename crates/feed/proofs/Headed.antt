@@ -2,7 +2,7 @@
 -- Assumes nothing.
 use Prim.Native.Nat.{ℕ}
 use mathlib.Core.Path.{◌≡◌, refl, sym, ◌∙◌}
-use mathlib.Core.Option.{none, some}
+use Rattle.std.specs.Prelude.{None, Some}
 use mathlib.Core.List.{List}
 use lib.ListN.{length}
 use Rattle.csv_text.specs.There.{if_there}
@@ -18,7 +18,7 @@ use Rattle.feed.proofs.Columned.{place_only, place_not, only_place_lem, not_plac
 
 -- ---- stop_times.txt
 module _ (h : List ℕ) where
-  times_columns_bad : (ts : List (List ℕ)) → fields h ≡ some ts → times_columns ts ≡ none → BadTimesHeader h
+  times_columns_bad : (ts : List (List ℕ)) → fields h ≡ Some ts → times_columns ts ≡ None → BadTimesHeader h
   unfolding times_columns
   times_columns_bad ts s e =
       not_there (only_place (column_of trip_id ts)) _ e
@@ -37,10 +37,10 @@ module _ (h : List ℕ) where
       (λ n. BadTimesHeader.bad_stop_sequence s (place_not ts stop_sequence n))
       (λ v w e₅. none_some (sym e₅))))))
 
-  pub times_header_bad : if_there (fields h) times_columns ≡ none → BadTimesHeader h
+  pub times_header_bad : if_there (fields h) times_columns ≡ None → BadTimesHeader h
   times_header_bad e = not_there (fields h) times_columns e (λ n. BadTimesHeader.header_wrong n) times_columns_bad
 
-  pub times_header_none : BadTimesHeader h → if_there (fields h) times_columns ≡ none
+  pub times_header_none : BadTimesHeader h → if_there (fields h) times_columns ≡ None
   unfolding times_columns
   times_header_none (BadTimesHeader.header_wrong e) = here_none (fields h) times_columns e
   times_header_none (BadTimesHeader.bad_trip_id {ts} s n) = from_there _ s ∙ (here_none (only_place (column_of trip_id ts)) _ (not_place ts trip_id n))
@@ -63,7 +63,7 @@ module _ (h : List ℕ) where
       follows_none (only_place (column_of departure_time ts)) _ λ c.
       follows_none (only_place (column_of stop_id ts)) _ λ d. here_none (only_place (column_of stop_sequence ts)) _ (not_place ts stop_sequence n))
 
-  pub times_head : {c : TimesColumns} → if_there (fields h) times_columns ≡ some c → TimesHead h c
+  pub times_head : {c : TimesColumns} → if_there (fields h) times_columns ≡ Some c → TimesHead h c
   unfolding times_columns
   times_head e =
       let t = there (fields h) times_columns e in
@@ -85,7 +85,7 @@ module _ (h : List ℕ) where
         sequence = place_only ts stop_sequence q.1;
       })
 
-  pub head_times : {c : TimesColumns} → TimesHead h c → if_there (fields h) times_columns ≡ some c
+  pub head_times : {c : TimesColumns} → TimesHead h c → if_there (fields h) times_columns ≡ Some c
   unfolding if_there times_columns
   head_times k =
       let ts = k.texts in
@@ -100,7 +100,7 @@ module _ (h : List ℕ) where
       )
 
   -- ---- transfers.txt
-  pub transfers_head : {c : TransferColumns} → if_there (fields h) transfer_columns ≡ some c → TransfersHead h c
+  pub transfers_head : {c : TransferColumns} → if_there (fields h) transfer_columns ≡ Some c → TransfersHead h c
   unfolding transfer_columns
   transfers_head e =
       let t = there (fields h) transfer_columns e in
@@ -120,7 +120,7 @@ module _ (h : List ℕ) where
         span = place_span ts s.1;
       })
 
-  pub head_transfers : {c : TransferColumns} → TransfersHead h c → if_there (fields h) transfer_columns ≡ some c
+  pub head_transfers : {c : TransferColumns} → TransfersHead h c → if_there (fields h) transfer_columns ≡ Some c
   unfolding if_there transfer_columns
   head_transfers k =
       let ts = k.texts in
@@ -133,7 +133,7 @@ module _ (h : List ℕ) where
         ← k.count,
       )
 
-  transfer_columns_bad : (ts : List (List ℕ)) → fields h ≡ some ts → transfer_columns ts ≡ none → BadTransfersHeader h
+  transfer_columns_bad : (ts : List (List ℕ)) → fields h ≡ Some ts → transfer_columns ts ≡ None → BadTransfersHeader h
   unfolding transfer_columns
   transfer_columns_bad ts s e =
       not_there (only_place (column_of from_stop_id ts)) _ e
@@ -149,10 +149,10 @@ module _ (h : List ℕ) where
       (λ n. BadTransfersHeader.bad_min_transfer_time s (place_two ts n))
       (λ v w e₄. none_some (sym e₄)))))
 
-  pub transfers_header_bad : if_there (fields h) transfer_columns ≡ none → BadTransfersHeader h
+  pub transfers_header_bad : if_there (fields h) transfer_columns ≡ None → BadTransfersHeader h
   transfers_header_bad e = not_there (fields h) transfer_columns e (λ n. BadTransfersHeader.header_wrong n) transfer_columns_bad
 
-  pub transfers_header_none : BadTransfersHeader h → if_there (fields h) transfer_columns ≡ none
+  pub transfers_header_none : BadTransfersHeader h → if_there (fields h) transfer_columns ≡ None
   unfolding transfer_columns
   transfers_header_none (BadTransfersHeader.header_wrong e) = here_none (fields h) transfer_columns e
   transfers_header_none (BadTransfersHeader.bad_from_stop_id {ts} s n) =

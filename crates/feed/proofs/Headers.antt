@@ -3,7 +3,7 @@
 use Prim.Native.Nat.{ℕ}
 use mathlib.Core.Path.{◌≡◌, refl}
 use mathlib.Core.Bool.{Bool, true, ◌&&◌}
-use mathlib.Core.Option.{some}
+use Rattle.std.specs.Prelude.{Some}
 use mathlib.Core.List.{List, [], ◌∷◌, ◌++◌}
 use lib.Dec.{ltb}
 use borrow.Author.Tests.{ltb-true}
@@ -53,11 +53,11 @@ pub times_header_lem : (b : List ℕ) → lines (times_header ++ b) ≡ times_li
 unfolding times_header times_line
 times_header_lem b = lines_with b trip_inner times_inner
 
-named_times : times_columns (trip_id ∷ times_names) ≡ some times_places
+named_times : times_columns (trip_id ∷ times_names) ≡ Some times_places
 unfolding times_columns if_there only_place column_of column_from is_named same_text trip_id arrival_time departure_time stop_id stop_sequence
 named_times = refl
 
-pub times_columns_lem : if_there (fields times_line) times_columns ≡ some times_places
+pub times_columns_lem : if_there (fields times_line) times_columns ≡ Some times_places
 unfolding times_line if_there
 times_columns_lem = rw (fields_with trip_inner times_inner) named_times
 
@@ -84,11 +84,11 @@ pub transfers_header_lem : (b : List ℕ) → lines (transfers_header ++ b) ≡ 
 unfolding transfers_header transfers_line
 transfers_header_lem b = lines_with b from_inner transfers_inner
 
-named_transfers : transfer_columns (from_stop_id ∷ transfers_names) ≡ some transfer_places
+named_transfers : transfer_columns (from_stop_id ∷ transfers_names) ≡ Some transfer_places
 unfolding transfer_columns if_there only_place any_place column_of column_from is_named same_text from_stop_id to_stop_id transfer_type min_transfer_time
 named_transfers = refl
 
-pub transfers_columns : if_there (fields transfers_line) transfer_columns ≡ some transfer_places
+pub transfers_columns : if_there (fields transfers_line) transfer_columns ≡ Some transfer_places
 unfolding transfers_line if_there
 transfers_columns = rw (fields_with from_inner transfers_inner) named_transfers
 

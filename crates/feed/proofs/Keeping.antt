@@ -3,7 +3,7 @@
 use Prim.Native.Nat.{ℕ, zero, suc, ◌-◌, ◌≤◌, ◌<◌}
 use mathlib.Core.Path.{◌≡◌, refl, sym, ap, ◌∙◌}
 use mathlib.Core.Bool.{true, ◌||◌}
-use mathlib.Core.Option.{some}
+use Rattle.std.specs.Prelude.{Some}
 use mathlib.Core.List.{List, [], ◌∷◌, ◌++◌}
 use native.Mathlib.Omega.{arith}
 use lib.Dec.{ltb, eqb}
@@ -145,7 +145,7 @@ module _ (room : Room) (x : TimeLine) (f : Feed) (trips : List (List ℕ)) (r : 
 
 -- the two ways of a line: another row of the last trip, or the first of a new one
 module _ (c : TimesColumns) (room : Room) (l : List ℕ) (x : TimeLine) (f g : Feed) (q : ℕ) (r : Right room f) (none : f.transfers ≡ [])
-    (e : time_line c l ≡ some x) where
+    (e : time_line c l ≡ Some x) where
   am : is_moment x.arrival ≡ true
   am = let z = time_fields c l e in clock_moment (get_or z.texts c.arrival []) z.arrival
 
@@ -210,8 +210,8 @@ times_kept {c} {room} (times_more {l} {ls} {x} {f} {g} {f'} {q} e k t) r none =
     times_kept t z.0 z.1
 
 -- ---- transfers.txt
-module _ (c : TransferColumns) (room : Room) (l : List ℕ) (x : TransferLine) (f g : Feed) (r : Right room f) (e : transfer_line c l ≡ some x)
-    (k : take_transfer room x f ≡ some g) where
+module _ (c : TransferColumns) (room : Room) (l : List ℕ) (x : TransferLine) (f g : Feed) (r : Right room f) (e : transfer_line c l ≡ Some x)
+    (k : take_transfer room x f ≡ Some g) where
   at : ℕ
   at = after_transfers (after_times none_seen f.times).stops f.transfers
 

@@ -2,7 +2,7 @@
 -- Assumes nothing.
 use Prim.Native.Nat.{ℕ}
 use mathlib.Core.Path.{◌≡◌, refl}
-use mathlib.Core.Option.{Option, none, some}
+use Rattle.std.specs.Prelude.{Option, None, Some}
 use mathlib.Core.List.{List, [], ◌∷◌}
 use native.Mathlib.Omega.{arith}
 use Rattle.csv_text.specs.There.{if_there}
@@ -50,8 +50,8 @@ module _ (room : Room) where
   times_end (h ∷ ls) = go (if_there (fields h) times_columns) refl
     where
       go : (o : Option TimesColumns) → if_there (fields h) times_columns ≡ o → TimesEnd (h ∷ ls) (times_under room o ls)
-      go none e = was_bad (bad_times_header (times_header_bad h e))
-      go (some c) e = times_under_end h (times_head h e) (times_stop c room 2 ls empty_feed 0)
+      go None e = was_bad (bad_times_header (times_header_bad h e))
+      go (Some c) e = times_under_end h (times_head h e) (times_stop c room 2 ls empty_feed 0)
 
   -- the feed of stop_times.txt is right
   times_done_right : {ls : List (List ℕ)} {f : Feed} → TimesDone room ls f → Right room f
@@ -77,8 +77,8 @@ module _ (room : Room) where
     transfers_end (h ∷ ls) = go (if_there (fields h) transfer_columns) refl
       where
         go : (o : Option TransferColumns) → if_there (fields h) transfer_columns ≡ o → TransfersEnd (h ∷ ls) (transfers_under room o ls g)
-        go none e = were_bad (bad_transfers_header (transfers_header_bad h e))
-        go (some c) e = transfers_under_end h (transfers_head h e) (transfers_stop c room 2 ls g)
+        go None e = were_bad (bad_transfers_header (transfers_header_bad h e))
+        go (Some c) e = transfers_under_end h (transfers_head h e) (transfers_stop c room 2 ls g)
 
   -- ---- both files
   module _ (a b : List ℕ) where

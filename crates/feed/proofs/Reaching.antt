@@ -2,7 +2,7 @@
 -- Assumes nothing.
 use Prim.Native.Nat.{ℕ}
 use mathlib.Core.Path.{◌≡◌, refl, ap}
-use mathlib.Core.Option.{Option, none, some}
+use Rattle.std.specs.Prelude.{Option, None, Some}
 use mathlib.Core.List.{List, [], ◌∷◌}
 use Rattle.csv_text.specs.There.{if_there}
 use Rattle.csv_text.specs.Lines.{lines}
@@ -58,8 +58,8 @@ module _ (room : Room) (P Q : Feed → Type 0) (s : Stays room P Q) where
 
   under_times : (o : Option TimesColumns) (ls : List (List ℕ)) → P (times_under room o ls).feed
   unfolding times_under
-  under_times none ls = s.empty
-  under_times (some c) ls = at_times_stop (times_stop c room 2 ls empty_feed 0) s.empty
+  under_times None ls = s.empty
+  under_times (Some c) ls = at_times_stop (times_stop c room 2 ls empty_feed 0) s.empty
 
   of_times : (ls : List (List ℕ)) → P (read_times room ls).feed
   unfolding read_times
@@ -73,8 +73,8 @@ module _ (room : Room) (P Q : Feed → Type 0) (s : Stays room P Q) where
 
   under_transfers : (o : Option TransferColumns) (ls : List (List ℕ)) (f : Feed) → Q f → Q (transfers_under room o ls f).feed
   unfolding transfers_under
-  under_transfers none ls f p = p
-  under_transfers (some c) ls f p = at_transfers_stop (transfers_stop c room 2 ls f) p
+  under_transfers None ls f p = p
+  under_transfers (Some c) ls f p = at_transfers_stop (transfers_stop c room 2 ls f) p
 
   of_transfers : (ls : List (List ℕ)) (f : Feed) → Q f → Q (read_transfers room ls f).feed
   unfolding read_transfers

@@ -3,7 +3,7 @@
 use Prim.Native.Nat.{ℕ, suc, ◌-◌, ◌≤◌, ◌<◌}
 use mathlib.Core.Path.{◌≡◌, refl, sym, ap, ◌∙◌}
 use mathlib.Core.Bool.{true, false, cond, ◌&&◌, true≢false, false≢true}
-use mathlib.Core.Option.{none, some}
+use Rattle.std.specs.Prelude.{None, Some}
 use mathlib.Core.List.{List, [], ◌∷◌, ◌++◌, nil≢cons}
 use native.Mathlib.Omega.{arith}
 use lib.Dec.{ltb, leb, eqb}
@@ -38,8 +38,8 @@ no_id (x ∷ t) e = absurd (true≢false e)
 
 -- ---- stop_times.txt: its form
 module _ (c : TimesColumns) (f : Feed) (q : ℕ) (l : List ℕ) where
-  module _ (ts : List (List ℕ)) (s : fields l ≡ some ts) where
-    values_bad : time_values c ts ≡ none → BadTime c f q l
+  module _ (ts : List (List ℕ)) (s : fields l ≡ Some ts) where
+    values_bad : time_values c ts ≡ None → BadTime c f q l
     unfolding time_values
     values_bad e =
         let A = eqb (length ts) c.count in
@@ -61,7 +61,7 @@ module _ (c : TimesColumns) (f : Feed) (q : ℕ) (l : List ℕ) where
         (λ v. BadTime.no_trip s (no_id (get_or ts c.trip []) v)))
         (λ u. BadTime.other_count s (eqb-false (length ts) c.count u))
 
-  pub form_bad : time_line c l ≡ none → BadTime c f q l
+  pub form_bad : time_line c l ≡ None → BadTime c f q l
   unfolding time_line
   form_bad e = not_there (fields l) (time_values c) e (λ n. BadTime.wrong_fields n) (λ ts s v. values_bad ts s v)
 
@@ -108,7 +108,7 @@ module _ (room : Room) (x : TimeLine) (trips : List (List ℕ)) (f : Feed) {C : 
       (λ v. b (leb-false (length (named f.stops x.stop)) room.stops v)))
       (λ u. a (leb-false (length trips) room.trips u))
 
-module _ (c : TimesColumns) (room : Room) (f : Feed) (q : ℕ) (l : List ℕ) {x : TimeLine} (e : time_line c l ≡ some x) where
+module _ (c : TimesColumns) (room : Room) (f : Feed) (q : ℕ) (l : List ℕ) {x : TimeLine} (e : time_line c l ≡ Some x) where
   pub order_bad : take_time room x f q ≡ bad → BadTime c f q l
   order_bad k =
       let z = time_fields c l e in
@@ -154,34 +154,34 @@ module _ (room : Room) (f : Feed) (q : ℕ) (x : TimeLine) (r : InRoom room f) w
       (λ v w m. let z : ◌≡◌ {A = ℕ} 0 1 = cc in absurd (omega arith))
 
 -- ---- transfers.txt: its form
-kind_two : (t : List ℕ) → kind_of t ≡ some 2 → decimal t ≡ some 2
+kind_two : (t : List ℕ) → kind_of t ≡ Some 2 → decimal t ≡ Some 2
 unfolding kind_of
 kind_two [] e = let z = some_is e in absurd (omega arith)
 kind_two (y ∷ t) e =
-    let z = there (decimal (y ∷ t)) (λ k. cond (leb k 5) (some k) none) e in
-    let w = tested (leb z.0 5) (some z.0) z.2 in
+    let z = there (decimal (y ∷ t)) (λ k. cond (leb k 5) (Some k) None) e in
+    let w = tested (leb z.0 5) (Some z.0) z.2 in
     z.1 ∙ w.1
 
 module _ (c : TransferColumns) (l : List ℕ) where
-  module _ (ts : List (List ℕ)) (s : fields l ≡ some ts) where
-    kind_bad : (t : List ℕ) → t ≡ get_or ts c.kind [] → kind_of t ≡ none → BadTransfer c l
+  module _ (ts : List (List ℕ)) (s : fields l ≡ Some ts) where
+    kind_bad : (t : List ℕ) → t ≡ get_or ts c.kind [] → kind_of t ≡ None → BadTransfer c l
     unfolding kind_of
     kind_bad [] q e = none_some (sym e)
     kind_bad (y ∷ t) q e =
-        not_there (decimal (y ∷ t)) (λ k. cond (leb k 5) (some k) none) e
+        not_there (decimal (y ∷ t)) (λ k. cond (leb k 5) (Some k) None) e
         (λ n. BadTransfer.no_type s (λ z. nil≢cons (sym (q ∙ z))) (ap decimal (sym q) ∙ n))
         (λ k n h.
         split (leb k 5)
         (λ v. none_some (sym (rw v at h)))
         (λ v. BadTransfer.other_type s (ap decimal (sym q) ∙ n) (leb-false k 5 v)))
 
-    span_bad : (k : ℕ) → kind_of (get_or ts c.kind []) ≡ some k → span_of k (get_or ts c.span []) ≡ none → BadTransfer c l
+    span_bad : (k : ℕ) → kind_of (get_or ts c.kind []) ≡ Some k → span_of k (get_or ts c.span []) ≡ None → BadTransfer c l
     unfolding span_of
     span_bad k h e =
         split (eqb k 2)
         (λ v.
-        let two : decimal (get_or ts c.kind []) ≡ some 2 = kind_two (get_or ts c.kind []) (h ∙ ap some (eqb-true k 2 v)) in
-        not_there (decimal (get_or ts c.span [])) (λ x. cond (ltb x UNSTATED) (some x) none) (rw v at e)
+        let two : decimal (get_or ts c.kind []) ≡ Some 2 = kind_two (get_or ts c.kind []) (h ∙ ap Some (eqb-true k 2 v)) in
+        not_there (decimal (get_or ts c.span [])) (λ x. cond (ltb x UNSTATED) (Some x) None) (rw v at e)
         (λ n. BadTransfer.no_span s two n)
         (λ x n g.
         split (ltb x UNSTATED)
@@ -189,7 +189,7 @@ module _ (c : TransferColumns) (l : List ℕ) where
         (λ w. BadTransfer.long_span s two n (ltb-false x UNSTATED w))))
         (λ v. none_some (sym (rw v at e)))
 
-    transfer_values_bad : transfer_values c ts ≡ none → BadTransfer c l
+    transfer_values_bad : transfer_values c ts ≡ None → BadTransfer c l
     unfolding transfer_values
     transfer_values_bad e =
         let A = eqb (length ts) c.count in
@@ -208,7 +208,7 @@ module _ (c : TransferColumns) (l : List ℕ) where
         (λ v. BadTransfer.no_from s (no_id (get_or ts c.from []) v)))
         (λ u. BadTransfer.other_count s (eqb-false (length ts) c.count u))
 
-  pub transfer_form_bad : transfer_line c l ≡ none → BadTransfer c l
+  pub transfer_form_bad : transfer_line c l ≡ None → BadTransfer c l
   unfolding transfer_line
   transfer_form_bad e = not_there (fields l) (transfer_values c) e (λ n. BadTransfer.wrong_fields n) (λ ts s v. transfer_values_bad ts s v)
 
@@ -241,7 +241,7 @@ module _ (room : Room) (f : Feed) (x : TransferLine) (r : InRoom room f) where
       both_full u (new_before f.stops x.from x.to v) (new_other f.stops x.from x.to v)
       (let z = rw g at h₁ in omega (arith, z, n, length-append more (x.to ∷ [])))))
 
-  pub transfer_room_full : take_transfer room x f ≡ none → NoTransferRoom room f x
+  pub transfer_room_full : take_transfer room x f ≡ None → NoTransferRoom room f x
   unfolding take_transfer
   transfer_room_full e =
       let A = leb (length (named (named f.stops x.from) x.to)) room.stops in

@@ -3,7 +3,7 @@
 use Prim.Native.Nat.{ℕ, suc, ◌-◌, ◌≤◌, ◌<◌}
 use mathlib.Core.Path.{◌≡◌, refl, sym, ap, ◌∙◌}
 use mathlib.Core.Bool.{true, false, cond, ◌&&◌, false≢true}
-use mathlib.Core.Option.{Option, none, some}
+use Rattle.std.specs.Prelude.{Option, None, Some}
 use mathlib.Core.List.{List, [], ◌∷◌, ◌++◌}
 use native.Mathlib.Omega.{arith}
 use lib.Dec.{ltb, leb}
@@ -34,7 +34,7 @@ unfolding is_id
 id_some {C} {t} {u} e q n = let z : is_id [] ≡ true = rw (sym q ∙ n) at e in absurd (false≢true z)
 
 -- a value is not there and there
-both : {A C : Type 0} {o : Option A} {x : A} → o ≡ none → o ≡ some x → C
+both : {A C : Type 0} {o : Option A} {x : A} → o ≡ None → o ≡ Some x → C
 both e h = none_some (sym e ∙ h)
 
 -- ---- stop_times.txt
@@ -73,7 +73,7 @@ module _ (room : Room) (x : TimeLine) (f : Feed) (q : ℕ) where
   take_back v w = rw (v, w)
 
 module _ (c : TimesColumns) (room : Room) (f : Feed) (q : ℕ) (l : List ℕ) {x : TimeLine} (o : Once f.trips) (z : TimeFields c l x) where
-  same_texts : {ts : List (List ℕ)} → fields l ≡ some ts → ts ≡ z.texts
+  same_texts : {ts : List (List ℕ)} → fields l ≡ Some ts → ts ≡ z.texts
   same_texts s = some_is (sym s ∙ z.are)
 
   pub bad_refuses : BadTime c f q l → take_time room x f q ≡ bad
@@ -128,33 +128,33 @@ module _ (room : Room) (x : TimeLine) (f : Feed) (q : ℕ) where
       (λ v w. trips_refuse room x (f.trips ++ (x.trip ∷ [])) f (omega (arith, length-append f.trips (x.trip ∷ [])))) r
 
 -- ---- transfers.txt
-kind_some : {C : Type 0} (t : List ℕ) {k : ℕ} → kind_of t ≡ some k → (t ≡ [] → C) → (decimal t ≡ some k → k ≤ 5 → C) → C
+kind_some : {C : Type 0} (t : List ℕ) {k : ℕ} → kind_of t ≡ Some k → (t ≡ [] → C) → (decimal t ≡ Some k → k ≤ 5 → C) → C
 unfolding kind_of
 kind_some [] e f g = f refl
 kind_some (y ∷ t) {k} e f g =
-    let z = there (decimal (y ∷ t)) (λ k. cond (leb k 5) (some k) none) e in
-    let w = tested (leb z.0 5) (some z.0) z.2 in
+    let z = there (decimal (y ∷ t)) (λ k. cond (leb k 5) (Some k) None) e in
+    let w = tested (leb z.0 5) (Some z.0) z.2 in
     let v = some_is w.1 in
     g (z.1 ∙ w.1) (let u = leb-true z.0 5 w.0 in omega arith)
 
 -- no number stands in an empty text
-empty_number : {C : Type 0} {t : List ℕ} {k : ℕ} → t ≡ [] → decimal t ≡ some k → C
+empty_number : {C : Type 0} {t : List ℕ} {k : ℕ} → t ≡ [] → decimal t ≡ Some k → C
 unfolding decimal
 empty_number e h = none_some (rw e at h)
 
 -- a type that is a number is that number
-kind_number : (t : List ℕ) {j k : ℕ} → kind_of t ≡ some k → decimal t ≡ some j → (j ≡ k) × (k ≤ 5)
+kind_number : (t : List ℕ) {j k : ℕ} → kind_of t ≡ Some k → decimal t ≡ Some j → (j ≡ k) × (k ≤ 5)
 kind_number t e h = kind_some t e (λ n. empty_number n h) (λ d l. (some_is (sym h ∙ d), l))
 
-span_two : (k : ℕ) (t : List ℕ) {y : ℕ} → 2 ≡ k → span_of k t ≡ some y → (x : ℕ) × (decimal t ≡ some x) × (x < UNSTATED)
+span_two : (k : ℕ) (t : List ℕ) {y : ℕ} → 2 ≡ k → span_of k t ≡ Some y → (x : ℕ) × (decimal t ≡ Some x) × (x < UNSTATED)
 unfolding span_of
 span_two k t e h =
-    let h₁ : span_of 2 t ≡ some _ = rw (← e) at h in
-    let z = there (decimal t) (λ x. cond (ltb x UNSTATED) (some x) none) h₁ in
-    (z.0, z.1, ltb-true z.0 UNSTATED (tested (ltb z.0 UNSTATED) (some z.0) z.2).0)
+    let h₁ : span_of 2 t ≡ Some _ = rw (← e) at h in
+    let z = there (decimal t) (λ x. cond (ltb x UNSTATED) (Some x) None) h₁ in
+    (z.0, z.1, ltb-true z.0 UNSTATED (tested (ltb z.0 UNSTATED) (Some z.0) z.2).0)
 
 module _ (c : TransferColumns) (l : List ℕ) {x : TransferLine} (z : TransferFields c l x) where
-  same_fields : {ts : List (List ℕ)} → fields l ≡ some ts → ts ≡ z.texts
+  same_fields : {ts : List (List ℕ)} → fields l ≡ Some ts → ts ≡ z.texts
   same_fields s = some_is (sym s ∙ z.are)
 
   kind : List ℕ
@@ -186,7 +186,7 @@ module _ (c : TransferColumns) (l : List ℕ) {x : TransferLine} (z : TransferFi
       let u : v ≡ w.0 = some_is (sym n₁ ∙ w.1) in
       absurd (omega (arith, w.2))
 
-pub bad_transfer_refused : (c : TransferColumns) (l : List ℕ) → BadTransfer c l → transfer_line c l ≡ none
+pub bad_transfer_refused : (c : TransferColumns) (l : List ℕ) → BadTransfer c l → transfer_line c l ≡ None
 bad_transfer_refused c l b = either_there (transfer_line c l) (λ e. e) (λ x e. bad_absurd c l (transfer_fields c l e) b)
 
 -- a new name stays new behind another
@@ -205,11 +205,11 @@ module _ (room : Room) (x : TransferLine) (f : Feed) where
   still_new : Unnamed f.stops x.to → (x.from ≡ x.to → ⊥) → Unnamed (named f.stops x.from) x.to
   still_new v n = named_either f.stops x.from (λ e. rw e v) (λ u e. rw e (new_behind f.stops x.from x.to v n))
 
-  ends_refuse : room.stops < length (named (named f.stops x.from) x.to) → take_transfer room x f ≡ none
+  ends_refuse : room.stops < length (named (named f.stops x.from) x.to) → take_transfer room x f ≡ None
   unfolding take_transfer
   ends_refuse h = rw (lt-leb (length (named (named f.stops x.from) x.to)) room.stops h)
 
-  pub full_transfer_refused : NoTransferRoom room f x → take_transfer room x f ≡ none
+  pub full_transfer_refused : NoTransferRoom room f x → take_transfer room x f ≡ None
   unfolding take_transfer
   full_transfer_refused (from_full u h) =
       ends_refuse

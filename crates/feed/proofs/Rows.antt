@@ -1,11 +1,10 @@
--- Rows as words: either way there and back, how many there are, rows joined, and the next row of those that are left.
+-- Rows as words: either way there and back, how many there are, and rows joined.
 -- Assumes nothing.
-use Prim.Native.Nat.{ℕ, suc, ◌+◌, ◌*◌, ◌/◌, ◌%◌, ◌≤◌, ◌<◌}
+use Prim.Native.Nat.{ℕ, ◌+◌, ◌*◌, ◌/◌, ◌%◌}
 use mathlib.Core.Path.{◌≡◌, refl, ap, ◌∙◌}
 use mathlib.Core.List.{List, [], ◌∷◌, ◌++◌, append_assoc}
 use native.Mathlib.Omega.{arith}
-use lib.ListN.{length, get_or, drop, length-append}
-use lib.Seq.{drop-cons}
+use lib.ListN.{length, length-append}
 use Rattle.feed.specs.Feed.{TimeRow, TransferRow}
 use Rattle.feed.specs.Rows.{fours_in, flat_by, time_with, time_words, time_rows_in, flat_times, transfer_with, transfer_words, transfer_rows_in, flat_transfers}
 
@@ -43,21 +42,6 @@ module _ {A : Type 0} (g : A → List ℕ) where
   unfolding flat_by
   flat_append [] ys = refl
   flat_append (x ∷ xs) ys = rw (append_assoc (g x) (flat_by g xs)) (ap (λ (v : List ℕ). g x ++ v) (flat_append xs ys))
-
--- the rows that are left from word i on: the next one, and none
-pub fours_next : {A : Type 0} (f : ℕ → ℕ → ℕ → ℕ → A) (w : List ℕ) (i : ℕ) → i + 4 ≤ length w
-    → fours_in f (drop i w) ≡ f (get_or w i 0) (get_or w (i + 1) 0) (get_or w (i + 2) 0) (get_or w (i + 3) 0) ∷ fours_in f (drop (i + 4) w)
-unfolding fours_in
-fours_next f w i h =
-    let e₁ : suc i ≡ i + 1 = omega arith in
-    let e₂ : suc (i + 1) ≡ i + 2 = omega arith in
-    let e₃ : suc (i + 2) ≡ i + 3 = omega arith in
-    let e₄ : suc (i + 3) ≡ i + 4 = omega arith in
-    let l : i < length w = omega arith in
-    let l₁ : i + 1 < length w = omega arith in
-    let l₂ : i + 2 < length w = omega arith in
-    let l₃ : i + 3 < length w = omega arith in
-    rw (drop-cons w i 0, e₁, drop-cons w (i + 1) 0, e₂, drop-cons w (i + 2) 0, e₃, drop-cons w (i + 3) 0, e₄)
 
 -- ---- stop times
 pub times_flat : (rs : List TimeRow) → time_rows_in (flat_times rs) ≡ rs

@@ -2,7 +2,7 @@
 -- Assumes nothing.
 use Prim.Native.Nat.{ℕ, ◌-◌}
 use mathlib.Core.Path.{◌≡◌, refl, sym, ap, subst, ◌∙◌}
-use mathlib.Core.Option.{some}
+use Rattle.std.specs.Prelude.{Some}
 use mathlib.Core.List.{List, [], ◌∷◌, ◌++◌, append-nil, append_assoc}
 use native.Mathlib.Omega.{arith}
 use lib.ListN.{length, length-append, get_or-append}
@@ -151,7 +151,7 @@ record Walked (x : TransferLine) (f g : Feed) : Type 0 where
   on : Onward f g
   times : g.times ≡ f.times
 
-take_walked : (room : Room) (x : TransferLine) (f : Feed) {g : Feed} → take_transfer room x f ≡ some g → Walked x f g
+take_walked : (room : Room) (x : TransferLine) (f : Feed) {g : Feed} → take_transfer room x f ≡ Some g → Walked x f g
 take_walked room x f k =
     let near = named f.stops x.from in
     let l = longer_named near x.to in

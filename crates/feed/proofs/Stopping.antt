@@ -2,7 +2,7 @@
 -- Assumes nothing.
 use Prim.Native.Nat.{ℕ, suc, ◌+◌}
 use mathlib.Core.Path.{◌≡◌, refl}
-use mathlib.Core.Option.{none, some}
+use Rattle.std.specs.Prelude.{None, Some}
 use mathlib.Core.List.{List, [], ◌∷◌, ◌++◌}
 use native.Mathlib.Omega.{arith}
 use lib.ListN.{length}
@@ -24,11 +24,11 @@ took_cases out_of_room a b d = d refl
 module _ (c : TimesColumns) (room : Room) where
   -- one line
   module _ (k : ℕ) (l : List ℕ) (ls : List (List ℕ)) (f : Feed) (q : ℕ) where
-    pub time_none : time_line c l ≡ none → times_from c room k (l ∷ ls) f q ≡ record { feed = f; end = bad_times k }
+    pub time_none : time_line c l ≡ None → times_from c room k (l ∷ ls) f q ≡ record { feed = f; end = bad_times k }
     unfolding times_from
     time_none e = rw (e, times_from)
 
-    module _ {x : TimeLine} (e : time_line c l ≡ some x) where
+    module _ {x : TimeLine} (e : time_line c l ≡ Some x) where
       pub time_goes : {g : Feed} → take_time room x f q ≡ kept g → times_from c room k (l ∷ ls) f q ≡ times_from c room (suc k) ls g x.sequence
       unfolding times_from
       time_goes h = rw (e, h, times_from)
@@ -44,16 +44,16 @@ module _ (c : TimesColumns) (room : Room) where
   -- the lines before, the line that ends it, and those behind
   pub data TimesStop (k : ℕ) (f : Feed) (q : ℕ) : List (List ℕ) → Got → Type 0 where
     at_end : {ls : List (List ℕ)} {g : Feed} {q' : ℕ} → TimesTaken c room ls f q g q' → TimesStop k f q ls (record { feed = g; end = done })
-    at_none : {ls : List (List ℕ)} (l : List ℕ) (rest : List (List ℕ)) {g : Feed} {q' : ℕ} → TimesTaken c room ls f q g q' → time_line c l ≡ none
+    at_none : {ls : List (List ℕ)} (l : List ℕ) (rest : List (List ℕ)) {g : Feed} {q' : ℕ} → TimesTaken c room ls f q g q' → time_line c l ≡ None
         → TimesStop k f q (ls ++ (l ∷ rest)) (record { feed = g; end = bad_times (k + length ls) })
     at_bad : {ls : List (List ℕ)} (l : List ℕ) (rest : List (List ℕ)) {g : Feed} {q' : ℕ} {x : TimeLine} → TimesTaken c room ls f q g q'
-        → time_line c l ≡ some x → take_time room x g q' ≡ bad
+        → time_line c l ≡ Some x → take_time room x g q' ≡ bad
         → TimesStop k f q (ls ++ (l ∷ rest)) (record { feed = g; end = bad_times (k + length ls) })
     at_full : {ls : List (List ℕ)} (l : List ℕ) (rest : List (List ℕ)) {g : Feed} {q' : ℕ} {x : TimeLine} → TimesTaken c room ls f q g q'
-        → time_line c l ≡ some x → take_time room x g q' ≡ out_of_room → TimesStop k f q (ls ++ (l ∷ rest)) (record { feed = g; end = full })
+        → time_line c l ≡ Some x → take_time room x g q' ≡ out_of_room → TimesStop k f q (ls ++ (l ∷ rest)) (record { feed = g; end = full })
 
   -- one line before
-  stop_more : {k : ℕ} {f g : Feed} {q : ℕ} {l : List ℕ} {ls : List (List ℕ)} {x : TimeLine} {o : Got} → time_line c l ≡ some x
+  stop_more : {k : ℕ} {f g : Feed} {q : ℕ} {l : List ℕ} {ls : List (List ℕ)} {x : TimeLine} {o : Got} → time_line c l ≡ Some x
       → take_time room x f q ≡ kept g → TimesStop (suc k) g x.sequence ls o → TimesStop k f q (l ∷ ls) o
   stop_more e h (at_end t) = at_end (times_more e h t)
   stop_more {k} {f} {g} {q} {l} e h (at_none {ls = ms} m rest t n) =
@@ -88,28 +88,28 @@ module _ (c : TimesColumns) (room : Room) where
 -- ---- transfers.txt
 module _ (c : TransferColumns) (room : Room) where
   module _ (k : ℕ) (l : List ℕ) (ls : List (List ℕ)) (f : Feed) where
-    pub transfer_none : transfer_line c l ≡ none → transfers_from c room k (l ∷ ls) f ≡ record { feed = f; end = bad_transfers k }
+    pub transfer_none : transfer_line c l ≡ None → transfers_from c room k (l ∷ ls) f ≡ record { feed = f; end = bad_transfers k }
     unfolding transfers_from
     transfer_none e = rw (e, transfers_from)
 
-    module _ {x : TransferLine} (e : transfer_line c l ≡ some x) where
-      pub transfer_goes : {g : Feed} → take_transfer room x f ≡ some g → transfers_from c room k (l ∷ ls) f ≡ transfers_from c room (suc k) ls g
+    module _ {x : TransferLine} (e : transfer_line c l ≡ Some x) where
+      pub transfer_goes : {g : Feed} → take_transfer room x f ≡ Some g → transfers_from c room k (l ∷ ls) f ≡ transfers_from c room (suc k) ls g
       unfolding transfers_from
       transfer_goes h = rw (e, h, transfers_from)
 
-      pub transfer_full : take_transfer room x f ≡ none → transfers_from c room k (l ∷ ls) f ≡ record { feed = f; end = full }
+      pub transfer_full : take_transfer room x f ≡ None → transfers_from c room k (l ∷ ls) f ≡ record { feed = f; end = full }
       unfolding transfers_from
       transfer_full h = rw (e, h, transfers_from)
 
   pub data TransfersStop (k : ℕ) (f : Feed) : List (List ℕ) → Got → Type 0 where
     at_end : {ls : List (List ℕ)} {g : Feed} → TransfersTaken c room ls f g → TransfersStop k f ls (record { feed = g; end = done })
-    at_none : {ls : List (List ℕ)} (l : List ℕ) (rest : List (List ℕ)) {g : Feed} → TransfersTaken c room ls f g → transfer_line c l ≡ none
+    at_none : {ls : List (List ℕ)} (l : List ℕ) (rest : List (List ℕ)) {g : Feed} → TransfersTaken c room ls f g → transfer_line c l ≡ None
         → TransfersStop k f (ls ++ (l ∷ rest)) (record { feed = g; end = bad_transfers (k + length ls) })
     at_full : {ls : List (List ℕ)} (l : List ℕ) (rest : List (List ℕ)) {g : Feed} {x : TransferLine} → TransfersTaken c room ls f g
-        → transfer_line c l ≡ some x → take_transfer room x g ≡ none → TransfersStop k f (ls ++ (l ∷ rest)) (record { feed = g; end = full })
+        → transfer_line c l ≡ Some x → take_transfer room x g ≡ None → TransfersStop k f (ls ++ (l ∷ rest)) (record { feed = g; end = full })
 
-  transfers_stop_more : {k : ℕ} {f g : Feed} {l : List ℕ} {ls : List (List ℕ)} {x : TransferLine} {o : Got} → transfer_line c l ≡ some x
-      → take_transfer room x f ≡ some g → TransfersStop (suc k) g ls o → TransfersStop k f (l ∷ ls) o
+  transfers_stop_more : {k : ℕ} {f g : Feed} {l : List ℕ} {ls : List (List ℕ)} {x : TransferLine} {o : Got} → transfer_line c l ≡ Some x
+      → take_transfer room x f ≡ Some g → TransfersStop (suc k) g ls o → TransfersStop k f (l ∷ ls) o
   transfers_stop_more e h (at_end t) = at_end (transfers_more e h t)
   transfers_stop_more {k} {f} {g} {l} e h (at_none {ls = ms} m rest t n) =
       let z : suc k + length ms ≡ k + length (l ∷ ms) = omega arith in

@@ -3,7 +3,7 @@
 use Prim.Native.Nat.{ℕ, ◌-◌, ◌≤◌, ◌<◌}
 use mathlib.Core.Path.{◌≡◌, refl}
 use mathlib.Core.Bool.{Bool, true, false, cond, ◌&&◌}
-use mathlib.Core.Option.{some}
+use Rattle.std.specs.Prelude.{Some}
 use mathlib.Core.List.{List, [], ◌∷◌, ◌++◌}
 use native.Mathlib.Omega.{arith}
 use lib.Dec.{ltb, leb}
@@ -86,12 +86,12 @@ module _ (room : Room) (x : TransferLine) (f : Feed) where
     pub transfers_fit : length f.transfers < room.transfers
     pub now_is : with_transfer ≡ g
 
-  pub transfer_entered : {g : Feed} → take_transfer room x f ≡ some g → TransferEntered g
+  pub transfer_entered : {g : Feed} → take_transfer room x f ≡ Some g → TransferEntered g
   unfolding take_transfer
   transfer_entered {g} e =
       let A = leb (length (named (named f.stops x.from) x.to)) room.stops in
       let B = ltb (length f.transfers) room.transfers in
-      let w = tested (A && B) (some with_transfer) e in
+      let w = tested (A && B) (Some with_transfer) e in
       record {
         stops_fit = leb-true (length (named (named f.stops x.from) x.to)) room.stops (and_left A B w.0);
         transfers_fit = ltb-true (length f.transfers) room.transfers (and_right A B w.0);

@@ -3,7 +3,7 @@
 use Prim.Native.Nat.{ℕ}
 use mathlib.Core.Path.{◌≡◌}
 use mathlib.Core.Bool.{true}
-use mathlib.Core.Option.{some}
+use Rattle.std.specs.Prelude.{Some}
 use mathlib.Core.List.{List, [], ◌∷◌, ◌++◌}
 use Rattle.base.specs.Each.{Each, nil, cons}
 use Rattle.csv_text.specs.There.{if_there}
@@ -36,7 +36,7 @@ time_fields r p = digits r.trip ++ behind_commas (time_texts r p)
 abbrev pub time_value : TimeRow → ℕ → TimeLine
 time_value r p = record { trip = digits r.trip; stop = digits r.stop; arrival = r.arrival; departure = r.departure; sequence = p }
 
-reads_moment : (m : ℕ) → is_moment m ≡ true → clock (clock_text m) ≡ some m
+reads_moment : (m : ℕ) → is_moment m ≡ true → clock (clock_text m) ≡ Some m
 reads_moment m e = clock_reads m (moment_low m e) (moment_high m e)
 
 moment_inner : (m : ℕ) → is_moment m ≡ true → Each Inner (clock_text m)
@@ -52,7 +52,7 @@ module _ (r : TimeRow) (p : ℕ) (a : is_moment r.arrival ≡ true) (d : is_mome
   unfolding time_text time_fields
   time_first b = lines_with b (digits_inner r.trip) texts_inner
 
-  pub time_read : Counted p → time_line times_places (time_fields r p) ≡ some (time_value r p)
+  pub time_read : Counted p → time_line times_places (time_fields r p) ≡ Some (time_value r p)
   unfolding time_line time_fields if_there time_values
   time_read c =
       rw (

@@ -2,7 +2,7 @@
 -- Assumes nothing.
 use Prim.Native.Nat.{ℕ, suc, ◌+◌, ◌≤◌}
 use mathlib.Core.Path.{◌≡◌, sym, ap, ◌∙◌}
-use mathlib.Core.Option.{some}
+use Rattle.std.specs.Prelude.{Some}
 use mathlib.Core.List.{List, [], ◌∷◌, ◌++◌, append-nil, append_assoc}
 use native.Mathlib.Omega.{arith}
 use lib.Dec.{eqb}
@@ -27,7 +27,7 @@ unfolding position_after
 position_next trips v last = split (eqb (suc v) trips) (λ w. rw w (omega arith)) (λ w. rw w (omega arith))
 
 from_kept : (c : TimesColumns) (room : Room) (k : ℕ) (l : List ℕ) (ls : List (List ℕ)) (f : Feed) (last : ℕ) {x : TimeLine} {g : Feed}
-    → time_line c l ≡ some x → take_time room x f last ≡ kept g → times_from c room k (l ∷ ls) f last ≡ times_from c room (suc k) ls g x.sequence
+    → time_line c l ≡ Some x → take_time room x f last ≡ kept g → times_from c room k (l ∷ ls) f last ≡ times_from c room (suc k) ls g x.sequence
 unfolding times_from
 from_kept c room k l ls f last {x} {g} e q = rw (e, q, times_from)
 

@@ -3,7 +3,7 @@
 use Prim.Native.Nat.{ℕ, suc, ◌+◌, ◌≤◌, ◌<◌}
 use mathlib.Core.Path.{◌≡◌, refl, sym, ap, ◌∙◌}
 use mathlib.Core.Bool.{true, cond}
-use mathlib.Core.Option.{none, some}
+use Rattle.std.specs.Prelude.{None, Some}
 use mathlib.Core.List.{List, [], ◌∷◌, ◌++◌, append-nil, append_assoc}
 use native.Mathlib.Omega.{arith}
 use lib.Dec.{ltb, leb, eqb}
@@ -39,7 +39,7 @@ module _ (k x : ℕ) (e : fits_span k x ≡ true) where
       (λ w. omega (arith, eqb-true k 2 w))
       (λ w. leb-true k 5 (and_left (leb k 5) (eqb x UNSTATED) (rw w at e)))
 
-  span_read : span_of k (span_text k x) ≡ some x
+  span_read : span_of k (span_text k x) ≡ Some x
   unfolding fits_span span_of span_text if_there
   span_read =
       split (eqb k 2)
@@ -48,18 +48,18 @@ module _ (k x : ℕ) (e : fits_span k x ≡ true) where
       rw (w, read_digits x (omega (arith, ltb-true x UNSTATED l)), l))
       (λ w.
       let q : x ≡ UNSTATED = eqb-true x UNSTATED (and_right (leb k 5) (eqb x UNSTATED) (rw w at e)) in
-      rw w (ap some (sym q)))
+      rw w (ap Some (sym q)))
 
 span_inner : (k x : ℕ) → Each Inner (span_text k x)
 unfolding span_text
 span_inner k x = split (eqb k 2) (λ w. rw w (digits_inner x)) (λ w. rw w nil)
 
-kind_some : (t : List ℕ) → 0 < length t → kind_of t ≡ if_there (decimal t) (λ k. cond (leb k 5) (some k) none)
+kind_some : (t : List ℕ) → 0 < length t → kind_of t ≡ if_there (decimal t) (λ k. cond (leb k 5) (Some k) None)
 unfolding kind_of
 kind_some [] h = absurd (omega arith)
 kind_some (x ∷ t) h = refl
 
-kind_read : (k : ℕ) → k ≤ 5 → kind_of (digits k) ≡ some k
+kind_read : (k : ℕ) → k ≤ 5 → kind_of (digits k) ≡ Some k
 unfolding if_there
 kind_read k h = kind_some (digits k) (digits_some k) ∙ rw (read_digits k (omega arith), le-leb k 5 h)
 
@@ -84,7 +84,7 @@ unfolding transfer_text transfer_fields
 transfer_first r b = lines_with b (digits_inner r.from) (texts_inner r)
 
 transfer_read : (r : TransferRow) → fits_span r.kind r.span ≡ true
-    → transfer_line transfer_places (transfer_fields r) ≡ some (transfer_value r)
+    → transfer_line transfer_places (transfer_fields r) ≡ Some (transfer_value r)
 unfolding transfer_line transfer_fields if_there transfer_values
 transfer_read r e =
     rw (
@@ -102,7 +102,7 @@ with_transfers f stops rows = record { stops = first_names stops; trips = f.trip
 module _ (room : Room) (countable : Countable room) (f : Feed) where
   transfer_taken : (stops : ℕ) (rows : List TransferRow) (r : TransferRow) → TransferRight room stops r → stops ≤ room.stops
       → length rows < room.transfers
-      → take_transfer room (transfer_value r) (with_transfers f stops rows) ≡ some (with_transfers f (after_transfer stops r) (rows ++ (r ∷ [])))
+      → take_transfer room (transfer_value r) (with_transfers f stops rows) ≡ Some (with_transfers f (after_transfer stops r) (rows ++ (r ∷ [])))
   unfolding take_transfer with_transfers after_transfer
   transfer_taken stops rows r right inside few =
       let near = seen_after stops r.from in
@@ -127,7 +127,7 @@ module _ (room : Room) (countable : Countable room) (f : Feed) where
       )
 
 from_some : (c : TransferColumns) (room : Room) (k : ℕ) (l : List ℕ) (ls : List (List ℕ)) (f : Feed) {x : TransferLine} {g : Feed}
-    → transfer_line c l ≡ some x → take_transfer room x f ≡ some g → transfers_from c room k (l ∷ ls) f ≡ transfers_from c room (suc k) ls g
+    → transfer_line c l ≡ Some x → take_transfer room x f ≡ Some g → transfers_from c room k (l ∷ ls) f ≡ transfers_from c room (suc k) ls g
 unfolding transfers_from
 from_some c room k l ls f {x} {g} e q = rw (e, q, transfers_from)
 

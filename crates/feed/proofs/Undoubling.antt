@@ -3,7 +3,7 @@
 use Prim.Native.Nat.{ℕ, zero, suc}
 use mathlib.Core.Path.{◌≡◌, refl, sym, ◌∙◌}
 use mathlib.Core.Bool.{Bool, true, false}
-use mathlib.Core.Option.{Option, none, some}
+use Rattle.std.specs.Prelude.{Option, None, Some}
 use mathlib.Core.List.{List, [], ◌∷◌, nil≢cons}
 use lib.Dec.{eqb}
 use lib.ListN.{length, get_or}
@@ -91,16 +91,16 @@ field_fair (x ∷ b) = split (eqb x 34) (λ v. rw v (quoted_fair false b)) (λ v
 
 -- ---- every field of a line
 abbrev AllFair : Option (List (List ℕ)) → Type 0
-AllFair none = Unit {0}
-AllFair (some ts) = Each Paired ts
+AllFair None = Unit {0}
+AllFair (Some ts) = Each Paired ts
 
 with_fair : (t : List ℕ) (o : Option (List (List ℕ))) → Paired t → AllFair o → AllFair (with_field t o)
 unfolding with_field
-with_fair t none p f = f
-with_fair t (some ts) p f = cons p f
+with_fair t None p f = f
+with_fair t (Some ts) p f = cons p f
 
 next_fair : (fuel : ℕ) (s : Scan) → Fair s → ((b : List ℕ) → AllFair (fields_from fuel b))
-    → AllFair (elim s [ wrong ↦ none | taken t r ↦ elim r [ [] ↦ some (t ∷ []) | c ∷ b ↦ with_field t (fields_from fuel b) ] ])
+    → AllFair (elim s [ wrong ↦ None | taken t r ↦ elim r [ [] ↦ Some (t ∷ []) | c ∷ b ↦ with_field t (fields_from fuel b) ] ])
 next_fair fuel wrong f rest = tt
 next_fair fuel (taken t []) f rest = cons f nil
 next_fair fuel (taken t (c ∷ b)) f rest = with_fair t (fields_from fuel b) f (rest b)
@@ -110,11 +110,11 @@ unfolding fields_from
 from_fair zero l = tt
 from_fair (suc fuel) l = next_fair fuel (field l) (field_fair l) (λ b. from_fair fuel b)
 
-fair_paired : (o : Option (List (List ℕ))) {ts : List (List ℕ)} → AllFair o → o ≡ some ts → Each Paired ts
-fair_paired none f e = none_some e
-fair_paired (some us) f e = rw (← (some_is e)) f
+fair_paired : (o : Option (List (List ℕ))) {ts : List (List ℕ)} → AllFair o → o ≡ Some ts → Each Paired ts
+fair_paired None f e = none_some e
+fair_paired (Some us) f e = rw (← (some_is e)) f
 
-pub fields_paired : (l : List ℕ) {ts : List (List ℕ)} → fields l ≡ some ts → Each Paired ts
+pub fields_paired : (l : List ℕ) {ts : List (List ℕ)} → fields l ≡ Some ts → Each Paired ts
 unfolding fields
 fields_paired l e = fair_paired (fields_from (suc (length l)) l) (from_fair (suc (length l)) l) e
 

@@ -3,7 +3,7 @@
 use Prim.Native.Nat.{ℕ}
 use mathlib.Core.Path.{◌≡◌, refl}
 use mathlib.Core.Bool.{true, ◌&&◌}
-use mathlib.Core.Option.{some}
+use Rattle.std.specs.Prelude.{Some}
 use mathlib.Core.List.{List, []}
 use lib.Dec.{eqb}
 use lib.ListN.{length, get_or}
@@ -20,17 +20,17 @@ use Rattle.feed.proofs.IfThere.{some_is, there, tested}
 
 pub record TimeFields (c : TimesColumns) (l : List ℕ) (x : TimeLine) : Type 0 where
   pub texts : List (List ℕ)
-  pub are : fields l ≡ some texts
+  pub are : fields l ≡ Some texts
   pub count : length texts ≡ c.count
   pub trip_id : is_id x.trip ≡ true
   pub stop_id : is_id x.stop ≡ true
   pub trip : get_or texts c.trip [] ≡ x.trip
   pub stop : get_or texts c.stop [] ≡ x.stop
-  pub arrival : clock (get_or texts c.arrival []) ≡ some x.arrival
-  pub departure : clock (get_or texts c.departure []) ≡ some x.departure
-  pub sequence : decimal (get_or texts c.sequence []) ≡ some x.sequence
+  pub arrival : clock (get_or texts c.arrival []) ≡ Some x.arrival
+  pub departure : clock (get_or texts c.departure []) ≡ Some x.departure
+  pub sequence : decimal (get_or texts c.sequence []) ≡ Some x.sequence
 
-pub time_fields : (c : TimesColumns) (l : List ℕ) {x : TimeLine} → time_line c l ≡ some x → TimeFields c l x
+pub time_fields : (c : TimesColumns) (l : List ℕ) {x : TimeLine} → time_line c l ≡ Some x → TimeFields c l x
 unfolding time_line time_values
 time_fields c l {x} e =
     let ts = there (fields l) (time_values c) e in
@@ -59,16 +59,16 @@ time_fields c l {x} e =
 
 pub record TransferFields (c : TransferColumns) (l : List ℕ) (x : TransferLine) : Type 0 where
   pub texts : List (List ℕ)
-  pub are : fields l ≡ some texts
+  pub are : fields l ≡ Some texts
   pub count : length texts ≡ c.count
   pub from_id : is_id x.from ≡ true
   pub to_id : is_id x.to ≡ true
   pub from : get_or texts c.from [] ≡ x.from
   pub to : get_or texts c.to [] ≡ x.to
-  pub kind : kind_of (get_or texts c.kind []) ≡ some x.kind
-  pub span : span_of x.kind (get_or texts c.span []) ≡ some x.span
+  pub kind : kind_of (get_or texts c.kind []) ≡ Some x.kind
+  pub span : span_of x.kind (get_or texts c.span []) ≡ Some x.span
 
-pub transfer_fields : (c : TransferColumns) (l : List ℕ) {x : TransferLine} → transfer_line c l ≡ some x → TransferFields c l x
+pub transfer_fields : (c : TransferColumns) (l : List ℕ) {x : TransferLine} → transfer_line c l ≡ Some x → TransferFields c l x
 unfolding transfer_line transfer_values
 transfer_fields c l {x} e =
     let ts = there (fields l) (transfer_values c) e in

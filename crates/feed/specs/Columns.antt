@@ -1,6 +1,6 @@
 -- "header line in any column order": each column that is read stands at one place of the header. Other columns are passed over.
 use Rattle.std.specs.Prelude.{ℕ, List, [], ◌∷◌, length}
-use Rattle.std.proofs.Math.Option.{Option, none, some}
+use Rattle.std.specs.Prelude.{Option, None, Some}
 use Rattle.csv_text.specs.There.{if_there}
 use Rattle.columns.specs.declared.Column.{Column}
 use Rattle.columns.specs.declared.Column.TheVariants.{At, Absent, Twice}
@@ -48,9 +48,9 @@ min_transfer_time = 109 ∷ 105 ∷ 110 ∷ 95 ∷ 116 ∷ 114 ∷ 97 ∷ 110 �
 -- ---- their places
 -- of a column that must be there, once
 unfoldable pub only_place : Column → Option ℕ
-only_place (At i) = some i
-only_place Absent = none
-only_place Twice = none
+only_place (At i) = Some i
+only_place Absent = None
+only_place Twice = None
 
 -- none for a header that lacks one of them, or has one twice
 unfoldable pub times_columns : List (List ℕ) → Option TimesColumns
@@ -60,13 +60,13 @@ times_columns ts =
     if_there (only_place (column_of departure_time ts)) (λ c.
     if_there (only_place (column_of stop_id ts)) (λ d.
     if_there (only_place (column_of stop_sequence ts)) (λ e.
-    some (record { count = length ts; trip = a; arrival = b; departure = c; stop = d; sequence = e }))))))
+    Some (record { count = length ts; trip = a; arrival = b; departure = c; stop = d; sequence = e }))))))
 
 -- of a column that may be missing, but does not stand twice: a missing one is behind the last, where every line's field is empty
 unfoldable pub any_place : ℕ → Column → Option ℕ
-any_place count (At i) = some i
-any_place count Absent = some count
-any_place count Twice = none
+any_place count (At i) = Some i
+any_place count Absent = Some count
+any_place count Twice = None
 
 -- "Only transfer_type 2 gives a stated span", so the column of the spans may be missing
 unfoldable pub transfer_columns : List (List ℕ) → Option TransferColumns
@@ -75,4 +75,4 @@ transfer_columns ts =
     if_there (only_place (column_of to_stop_id ts)) (λ b.
     if_there (only_place (column_of transfer_type ts)) (λ c.
     if_there (any_place (length ts) (column_of min_transfer_time ts)) (λ d.
-    some (record { count = length ts; from = a; to = b; kind = c; span = d })))))
+    Some (record { count = length ts; from = a; to = b; kind = c; span = d })))))

@@ -1,6 +1,6 @@
 -- "header line in any column order": what a header says, by the places where its columns stand.
 use Rattle.std.specs.Prelude.{ℕ, ◌<◌, ◌≡◌, List, [], length, get_or}
-use Rattle.std.proofs.Math.Option.{none, some}
+use Rattle.std.specs.Prelude.{None, Some}
 use Rattle.csv_text.specs.Fields.{fields}
 use Rattle.feed.specs.declared.TimesColumns.{TimesColumns}
 use Rattle.feed.specs.declared.TransferColumns.{TransferColumns}
@@ -26,7 +26,7 @@ pub record AtTwo (ts : List (List ℕ)) (name : List ℕ) : Type 0 where
 -- ---- the columns c are those of the header h
 pub record TimesHead (h : List ℕ) (c : TimesColumns) : Type 0 where
   pub texts : List (List ℕ)
-  pub are : fields h ≡ some texts
+  pub are : fields h ≡ Some texts
   pub count : c.count ≡ length texts
   pub trip : OnlyAt texts trip_id c.trip
   pub arrival : OnlyAt texts arrival_time c.arrival
@@ -41,7 +41,7 @@ pub data SpanAt (ts : List (List ℕ)) (i : ℕ) : Type 0 where
 
 pub record TransfersHead (h : List ℕ) (c : TransferColumns) : Type 0 where
   pub texts : List (List ℕ)
-  pub are : fields h ≡ some texts
+  pub are : fields h ≡ Some texts
   pub count : c.count ≡ length texts
   pub from : OnlyAt texts from_stop_id c.from
   pub to : OnlyAt texts to_stop_id c.to
@@ -54,16 +54,16 @@ pub data NotOnce (ts : List (List ℕ)) (name : List ℕ) : Type 0 where
   doubled : AtTwo ts name → NotOnce ts name
 
 pub data BadTimesHeader (h : List ℕ) : Type 0 where
-  header_wrong : fields h ≡ none → BadTimesHeader h
-  bad_trip_id : {ts : List (List ℕ)} → fields h ≡ some ts → NotOnce ts trip_id → BadTimesHeader h
-  bad_arrival_time : {ts : List (List ℕ)} → fields h ≡ some ts → NotOnce ts arrival_time → BadTimesHeader h
-  bad_departure_time : {ts : List (List ℕ)} → fields h ≡ some ts → NotOnce ts departure_time → BadTimesHeader h
-  bad_stop_id : {ts : List (List ℕ)} → fields h ≡ some ts → NotOnce ts stop_id → BadTimesHeader h
-  bad_stop_sequence : {ts : List (List ℕ)} → fields h ≡ some ts → NotOnce ts stop_sequence → BadTimesHeader h
+  header_wrong : fields h ≡ None → BadTimesHeader h
+  bad_trip_id : {ts : List (List ℕ)} → fields h ≡ Some ts → NotOnce ts trip_id → BadTimesHeader h
+  bad_arrival_time : {ts : List (List ℕ)} → fields h ≡ Some ts → NotOnce ts arrival_time → BadTimesHeader h
+  bad_departure_time : {ts : List (List ℕ)} → fields h ≡ Some ts → NotOnce ts departure_time → BadTimesHeader h
+  bad_stop_id : {ts : List (List ℕ)} → fields h ≡ Some ts → NotOnce ts stop_id → BadTimesHeader h
+  bad_stop_sequence : {ts : List (List ℕ)} → fields h ≡ Some ts → NotOnce ts stop_sequence → BadTimesHeader h
 
 pub data BadTransfersHeader (h : List ℕ) : Type 0 where
-  header_wrong : fields h ≡ none → BadTransfersHeader h
-  bad_from_stop_id : {ts : List (List ℕ)} → fields h ≡ some ts → NotOnce ts from_stop_id → BadTransfersHeader h
-  bad_to_stop_id : {ts : List (List ℕ)} → fields h ≡ some ts → NotOnce ts to_stop_id → BadTransfersHeader h
-  bad_transfer_type : {ts : List (List ℕ)} → fields h ≡ some ts → NotOnce ts transfer_type → BadTransfersHeader h
-  bad_min_transfer_time : {ts : List (List ℕ)} → fields h ≡ some ts → AtTwo ts min_transfer_time → BadTransfersHeader h
+  header_wrong : fields h ≡ None → BadTransfersHeader h
+  bad_from_stop_id : {ts : List (List ℕ)} → fields h ≡ Some ts → NotOnce ts from_stop_id → BadTransfersHeader h
+  bad_to_stop_id : {ts : List (List ℕ)} → fields h ≡ Some ts → NotOnce ts to_stop_id → BadTransfersHeader h
+  bad_transfer_type : {ts : List (List ℕ)} → fields h ≡ Some ts → NotOnce ts transfer_type → BadTransfersHeader h
+  bad_min_transfer_time : {ts : List (List ℕ)} → fields h ≡ Some ts → AtTwo ts min_transfer_time → BadTransfersHeader h

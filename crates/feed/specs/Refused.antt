@@ -1,7 +1,7 @@
 -- "14 with its line for a bad line, 15 for a table that is full": the lines before are taken one by one, and the line that ends the reading is
 -- refused for one of these reasons.
 use Rattle.std.specs.Prelude.{ℕ, suc, ◌+◌, ◌≤◌, ◌<◌, ◌≡◌, List, [], ◌∷◌, ◌++◌, length, get_or}
-use Rattle.std.proofs.Math.Option.{none, some}
+use Rattle.std.specs.Prelude.{None, Some}
 use Rattle.csv_text.specs.Lines.{lines}
 use Rattle.csv_text.specs.Fields.{fields}
 use Rattle.numbers.specs.Decimal.{decimal}
@@ -20,23 +20,23 @@ use Rattle.feed.specs.Heads.{TimesHead, BadTimesHeader, TransfersHead, BadTransf
 -- lines that are taken lead from a feed, and the sequence of the row before, to a feed and a sequence
 pub data TimesTaken (c : TimesColumns) (room : Room) : List (List ℕ) → Feed → ℕ → Feed → ℕ → Type 0 where
   no_times : {f : Feed} {q : ℕ} → TimesTaken c room [] f q f q
-  times_more : {l : List ℕ} {ls : List (List ℕ)} {x : TimeLine} {f g f' : Feed} {q q' : ℕ} → time_line c l ≡ some x → take_time room x f q ≡ kept g
+  times_more : {l : List ℕ} {ls : List (List ℕ)} {x : TimeLine} {f g f' : Feed} {q q' : ℕ} → time_line c l ≡ Some x → take_time room x f q ≡ kept g
       → TimesTaken c room ls g x.sequence f' q' → TimesTaken c room (l ∷ ls) f q f' q'
 
 -- why a line is bad, behind the feed f whose last row has the sequence q
 pub data BadTime (c : TimesColumns) (f : Feed) (q : ℕ) (l : List ℕ) : Type 0 where
-  wrong_fields : fields l ≡ none → BadTime c f q l
-  other_count : {ts : List (List ℕ)} → fields l ≡ some ts → (length ts ≡ c.count → ⊥) → BadTime c f q l
-  no_trip : {ts : List (List ℕ)} → fields l ≡ some ts → get_or ts c.trip [] ≡ [] → BadTime c f q l
-  no_stop : {ts : List (List ℕ)} → fields l ≡ some ts → get_or ts c.stop [] ≡ [] → BadTime c f q l
-  no_arrival : {ts : List (List ℕ)} → fields l ≡ some ts → clock (get_or ts c.arrival []) ≡ none → BadTime c f q l
-  no_departure : {ts : List (List ℕ)} → fields l ≡ some ts → clock (get_or ts c.departure []) ≡ none → BadTime c f q l
-  no_sequence : {ts : List (List ℕ)} → fields l ≡ some ts → decimal (get_or ts c.sequence []) ≡ none → BadTime c f q l
+  wrong_fields : fields l ≡ None → BadTime c f q l
+  other_count : {ts : List (List ℕ)} → fields l ≡ Some ts → (length ts ≡ c.count → ⊥) → BadTime c f q l
+  no_trip : {ts : List (List ℕ)} → fields l ≡ Some ts → get_or ts c.trip [] ≡ [] → BadTime c f q l
+  no_stop : {ts : List (List ℕ)} → fields l ≡ Some ts → get_or ts c.stop [] ≡ [] → BadTime c f q l
+  no_arrival : {ts : List (List ℕ)} → fields l ≡ Some ts → clock (get_or ts c.arrival []) ≡ None → BadTime c f q l
+  no_departure : {ts : List (List ℕ)} → fields l ≡ Some ts → clock (get_or ts c.departure []) ≡ None → BadTime c f q l
+  no_sequence : {ts : List (List ℕ)} → fields l ≡ Some ts → decimal (get_or ts c.sequence []) ≡ None → BadTime c f q l
   -- the row before is of its trip, and the sequence does not rise
-  not_rising : {ts : List (List ℕ)} {n v : ℕ} → fields l ≡ some ts → length f.trips ≡ suc n → get_or f.trips n [] ≡ get_or ts c.trip []
-      → decimal (get_or ts c.sequence []) ≡ some v → v ≤ q → BadTime c f q l
+  not_rising : {ts : List (List ℕ)} {n v : ℕ} → fields l ≡ Some ts → length f.trips ≡ suc n → get_or f.trips n [] ≡ get_or ts c.trip []
+      → decimal (get_or ts c.sequence []) ≡ Some v → v ≤ q → BadTime c f q l
   -- its trip stood before another
-  comes_back : {ts : List (List ℕ)} {i : ℕ} → fields l ≡ some ts → suc i < length f.trips → get_or f.trips i [] ≡ get_or ts c.trip []
+  comes_back : {ts : List (List ℕ)} {i : ℕ} → fields l ≡ Some ts → suc i < length f.trips → get_or f.trips i [] ≡ get_or ts c.trip []
       → BadTime c f q l
 
 -- a line that keeps the order: the next of the trip of the row before, or the first of a trip
@@ -63,26 +63,26 @@ pub data TimesBad (room : Room) : List (List ℕ) → ℕ → Feed → Type 0 wh
 
 pub data TimesFull (room : Room) : List (List ℕ) → Feed → Type 0 where
   full_time : {h : List ℕ} {ls : List (List ℕ)} (l : List ℕ) (rest : List (List ℕ)) {c : TimesColumns} {f : Feed} {q : ℕ} {x : TimeLine}
-      → TimesHead h c → TimesTaken c room ls empty_feed 0 f q → time_line c l ≡ some x → InOrder f q x
+      → TimesHead h c → TimesTaken c room ls empty_feed 0 f q → time_line c l ≡ Some x → InOrder f q x
       → NoTimeRoom room f x → TimesFull room (h ∷ (ls ++ (l ∷ rest))) f
 
 -- ---- a line of transfers.txt
 pub data TransfersTaken (c : TransferColumns) (room : Room) : List (List ℕ) → Feed → Feed → Type 0 where
   no_transfers : {f : Feed} → TransfersTaken c room [] f f
-  transfers_more : {l : List ℕ} {ls : List (List ℕ)} {x : TransferLine} {f g f' : Feed} → transfer_line c l ≡ some x
-      → take_transfer room x f ≡ some g → TransfersTaken c room ls g f' → TransfersTaken c room (l ∷ ls) f f'
+  transfers_more : {l : List ℕ} {ls : List (List ℕ)} {x : TransferLine} {f g f' : Feed} → transfer_line c l ≡ Some x
+      → take_transfer room x f ≡ Some g → TransfersTaken c room ls g f' → TransfersTaken c room (l ∷ ls) f f'
 
 pub data BadTransfer (c : TransferColumns) (l : List ℕ) : Type 0 where
-  wrong_fields : fields l ≡ none → BadTransfer c l
-  other_count : {ts : List (List ℕ)} → fields l ≡ some ts → (length ts ≡ c.count → ⊥) → BadTransfer c l
-  no_from : {ts : List (List ℕ)} → fields l ≡ some ts → get_or ts c.from [] ≡ [] → BadTransfer c l
-  no_to : {ts : List (List ℕ)} → fields l ≡ some ts → get_or ts c.to [] ≡ [] → BadTransfer c l
+  wrong_fields : fields l ≡ None → BadTransfer c l
+  other_count : {ts : List (List ℕ)} → fields l ≡ Some ts → (length ts ≡ c.count → ⊥) → BadTransfer c l
+  no_from : {ts : List (List ℕ)} → fields l ≡ Some ts → get_or ts c.from [] ≡ [] → BadTransfer c l
+  no_to : {ts : List (List ℕ)} → fields l ≡ Some ts → get_or ts c.to [] ≡ [] → BadTransfer c l
   -- an empty type is 0
-  no_type : {ts : List (List ℕ)} → fields l ≡ some ts → (get_or ts c.kind [] ≡ [] → ⊥) → decimal (get_or ts c.kind []) ≡ none → BadTransfer c l
-  other_type : {ts : List (List ℕ)} {k : ℕ} → fields l ≡ some ts → decimal (get_or ts c.kind []) ≡ some k → 5 < k → BadTransfer c l
-  no_span : {ts : List (List ℕ)} → fields l ≡ some ts → decimal (get_or ts c.kind []) ≡ some 2 → decimal (get_or ts c.span []) ≡ none
+  no_type : {ts : List (List ℕ)} → fields l ≡ Some ts → (get_or ts c.kind [] ≡ [] → ⊥) → decimal (get_or ts c.kind []) ≡ None → BadTransfer c l
+  other_type : {ts : List (List ℕ)} {k : ℕ} → fields l ≡ Some ts → decimal (get_or ts c.kind []) ≡ Some k → 5 < k → BadTransfer c l
+  no_span : {ts : List (List ℕ)} → fields l ≡ Some ts → decimal (get_or ts c.kind []) ≡ Some 2 → decimal (get_or ts c.span []) ≡ None
       → BadTransfer c l
-  long_span : {ts : List (List ℕ)} {x : ℕ} → fields l ≡ some ts → decimal (get_or ts c.kind []) ≡ some 2 → decimal (get_or ts c.span []) ≡ some x
+  long_span : {ts : List (List ℕ)} {x : ℕ} → fields l ≡ Some ts → decimal (get_or ts c.kind []) ≡ Some 2 → decimal (get_or ts c.span []) ≡ Some x
       → UNSTATED ≤ x → BadTransfer c l
 
 -- which table has no room for it: the stops for one that is new, or for two; the transfers
@@ -106,7 +106,7 @@ pub data TransfersBad (room : Room) (g : Feed) : List (List ℕ) → ℕ → Fee
 
 pub data TransfersFull (room : Room) (g : Feed) : List (List ℕ) → Feed → Type 0 where
   full_transfer : {h : List ℕ} {ls : List (List ℕ)} (l : List ℕ) (rest : List (List ℕ)) {c : TransferColumns} {f : Feed} {x : TransferLine}
-      → TransfersHead h c → TransfersTaken c room ls g f → transfer_line c l ≡ some x → NoTransferRoom room f x
+      → TransfersHead h c → TransfersTaken c room ls g f → transfer_line c l ≡ Some x → NoTransferRoom room f x
       → TransfersFull room g (h ∷ (ls ++ (l ∷ rest))) f
 
 -- ---- both files

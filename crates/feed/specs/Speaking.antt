@@ -1,6 +1,6 @@
 -- What rows say: each is that of its line, its ids by their numbers.
 use Rattle.std.specs.Prelude.{ℕ, ◌<◌, ◌≡◌, List, [], ◌∷◌, ◌++◌, length, get_or}
-use Rattle.std.proofs.Math.Option.{some}
+use Rattle.std.specs.Prelude.{Some}
 use Rattle.feed.specs.declared.TimesColumns.{TimesColumns}
 use Rattle.feed.specs.declared.TransferColumns.{TransferColumns}
 use Rattle.feed.specs.Feed.{TimeRow, TransferRow, Feed}
@@ -22,7 +22,7 @@ pub record SaysTime (f : Feed) (x : TimeLine) (r : TimeRow) : Type 0 where
 
 pub data TimesSay (c : TimesColumns) (f : Feed) : List (List ℕ) → List TimeRow → Type 0 where
   no_time : TimesSay c f [] []
-  one_time : {l : List ℕ} {ls : List (List ℕ)} {x : TimeLine} {r : TimeRow} {rs : List TimeRow} → time_line c l ≡ some x → SaysTime f x r
+  one_time : {l : List ℕ} {ls : List (List ℕ)} {x : TimeLine} {r : TimeRow} {rs : List TimeRow} → time_line c l ≡ Some x → SaysTime f x r
       → TimesSay c f ls rs → TimesSay c f (l ∷ ls) (r ∷ rs)
 
 -- the rows are those of the file's first lines, one for one
@@ -40,7 +40,7 @@ pub record SaysTransfer (f : Feed) (x : TransferLine) (r : TransferRow) : Type 0
 
 pub data TransfersSay (c : TransferColumns) (f : Feed) : List (List ℕ) → List TransferRow → Type 0 where
   no_transfer : TransfersSay c f [] []
-  one_transfer : {l : List ℕ} {ls : List (List ℕ)} {x : TransferLine} {r : TransferRow} {rs : List TransferRow} → transfer_line c l ≡ some x
+  one_transfer : {l : List ℕ} {ls : List (List ℕ)} {x : TransferLine} {r : TransferRow} {rs : List TransferRow} → transfer_line c l ≡ Some x
       → SaysTransfer f x r → TransfersSay c f ls rs → TransfersSay c f (l ∷ ls) (r ∷ rs)
 
 pub data SaysTransfers (f : Feed) : List (List ℕ) → Type 0 where

@@ -1,6 +1,6 @@
 -- stop_times.txt: "Rows of a trip stand together with rising stop_sequence. A missing time .. makes a bad line."
 use Rattle.std.specs.Prelude.{ℕ, suc, ◌-◌, Bool, true, false, cond, ◌&&◌, List, [], ◌∷◌, ◌++◌, ltb, leb, eqb, length, get_or}
-use Rattle.std.proofs.Math.Option.{Option, none, some}
+use Rattle.std.specs.Prelude.{Option, None, Some}
 use Rattle.csv_text.specs.There.{if_there}
 use Rattle.csv_text.specs.Texts.{same_text}
 use Rattle.csv_text.specs.Fields.{fields}
@@ -32,8 +32,8 @@ time_values c ts =
     (if_there (clock (get_or ts c.arrival [])) (λ a.
     if_there (clock (get_or ts c.departure [])) (λ d.
     if_there (decimal (get_or ts c.sequence [])) (λ q.
-    some (record { trip = get_or ts c.trip []; stop = get_or ts c.stop []; arrival = a; departure = d; sequence = q })))))
-    none
+    Some (record { trip = get_or ts c.trip []; stop = get_or ts c.stop []; arrival = a; departure = d; sequence = q })))))
+    None
 
 unfoldable pub time_line : TimesColumns → List ℕ → Option TimeLine
 time_line c l = if_there (fields l) (time_values c)
@@ -74,8 +74,8 @@ unfoldable pub times_from : TimesColumns → Room → ℕ → List (List ℕ) �
 times_from c room k [] f last = record { feed = f; end = done }
 times_from c room k (l ∷ ls) f last =
     elim (time_line c l) [
-      | none ↦ record { feed = f; end = bad_times k }
-      | some x ↦
+      | None ↦ record { feed = f; end = bad_times k }
+      | Some x ↦
           elim (take_time room x f last) [
             | kept g ↦ times_from c room (suc k) ls g x.sequence
             | bad ↦ record { feed = f; end = bad_times k }
@@ -84,8 +84,8 @@ times_from c room k (l ∷ ls) f last =
     ]
 
 unfoldable pub times_under : Room → Option TimesColumns → List (List ℕ) → Got
-times_under room none ls = record { feed = empty_feed; end = bad_times 1 }
-times_under room (some c) ls = times_from c room 2 ls empty_feed 0
+times_under room None ls = record { feed = empty_feed; end = bad_times 1 }
+times_under room (Some c) ls = times_from c room 2 ls empty_feed 0
 
 -- line 1 is the header; a file without one has a bad line 1
 unfoldable pub read_times : Room → List (List ℕ) → Got

@@ -52,10 +52,9 @@ pub struct TransferSpans {
     pub span: u32,
 }
 
-// How the reading of a file ends: "14 with its line for a bad line, 15 for a table that is full".
-#[derive(Clone, Copy)]
-pub enum Ending {
-    Done,
+// Why the reading of a file ends before its lines do: "14 with its line for a bad line, 15 for a table that is full".
+#[derive(Clone, Copy, Debug, PartialEq, Eq)]
+pub enum Unread {
     Bad(u32),
     Full,
 }

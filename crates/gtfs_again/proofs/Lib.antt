@@ -1,2 +1,1 @@
--- Laws that belong to no one function.
-pub mod Comparing
+-- No laws of its own.

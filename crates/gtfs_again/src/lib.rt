@@ -6,11 +6,10 @@ ghost use Rattle.arguments.specs.Word.{begins_with};
 ghost use Rattle.gtfs_again.specs.Again.{same_counts, again_as};
 
 use gtfs_read::Told;
-use gtfs_write::Written;
 use std::io;
 
-// What was read again, held to what was written.
-#[derive(Clone, Copy)]
+// What was read again, held to what was written. Stays an enum of its own: it has five cases.
+#[derive(Clone, Copy, Debug, PartialEq, Eq)]
 enum Again {
     Same,
     NotRead,
@@ -23,64 +22,46 @@ enum Again {
 fn begins_with(words: &[u32], rows: &[u32]) -> bool
     ensures { result ≡ begins_with words.now rows.now }
 {
-    if words.len() < rows.len() {
-        return false;
-    }
-    let mut i = 0;
-    while i < rows.len() {
-        if words[i] == rows[i] {
-            i += 1;
-        } else {
-            return false;
-        }
-    }
-    true
+    words.starts_with(rows)
 }
 
 // Whether so much was taken both times.
+#[tactic(auto, unfolding(crate::specs::Again::same_counts))]
 fn same_counts(t: Told, u: Told) -> bool
     ensures { result ≡ same_counts t u }
 {
-    if t.stops != u.stops {
-        return false;
-    }
-    if t.trips != u.trips {
-        return false;
-    }
-    if t.times != u.times {
-        return false;
-    }
-    t.transfers == u.transfers
+    t.stops == u.stops && t.trips == u.trips && t.times == u.times && t.transfers == u.transfers
 }
 
 // The rows and what was told of them, first as they were written, then as they were read again.
+#[tactic(auto, unfolding(crate::specs::Again::again_as))]
 fn held(times: &[u32], paths: &[u32], t: Told, again: &[u32], again_paths: &[u32], u: Told) -> Again
     ensures { result ≡ again_as times.now paths.now t again.now again_paths.now u }
 {
-    if 0 < u.number {
+    if u.ending.is_err() {
         return Again::NotRead;
     }
-    if same_counts(t, u) {
-        if begins_with(again, times) {
-            if begins_with(again_paths, paths) {
-                return Again::Same;
-            }
-            return Again::OtherTransfers;
-        }
+    if !same_counts(t, u) {
+        return Again::OtherCounts;
+    }
+    if !begins_with(again, times) {
         return Again::OtherTimes;
     }
-    Again::OtherCounts
+    if !begins_with(again_paths, paths) {
+        return Again::OtherTransfers;
+    }
+    Again::Same
 }
 
 // Says what it is.
 fn print_again(rt: &impl Print, a: Again, u: Told) -> io::Result<()> {
     match a {
-        Again::Same => print::text(rt, b"same\n"),
-        Again::OtherCounts => print::text(rt, b"other counts\n"),
-        Again::OtherTimes => print::text(rt, b"other times\n"),
-        Again::OtherTransfers => print::text(rt, b"other transfers\n"),
+        Again::Same => println!(rt; "same"),
+        Again::OtherCounts => println!(rt; "other counts"),
+        Again::OtherTimes => println!(rt; "other times"),
+        Again::OtherTransfers => println!(rt; "other transfers"),
         Again::NotRead => {
-            print::text(rt, b"not read again: ")?;
+            print!(rt; "not read again: ")?;
             gtfs_telling::print_number(rt, u)
         }
     }
@@ -107,8 +88,7 @@ fn read_again(
         &mut stops,
         &mut trips,
     );
-    let a = held(times, paths, t, &again, &again_paths, u);
-    print_again(rt, a, u)
+    print_again(rt, held(times, paths, t, &again, &again_paths, u), u)
 }
 
 // Writes the transfers, where the times are written, and reads both files.
@@ -120,15 +100,12 @@ fn write_paths(
     paths: &[u32],
     t: Told,
 ) -> io::Result<()> {
-    let written = gtfs_write_transfers::write_transfers(paths, t.split, out);
-    match written {
-        Written::Refused(k) => gtfs_telling::print_refused(rt, k),
-        Written::Bytes(n) => {
-            if out.len() < n {
-                return Ok(());
-            }
-            read_again(rt, stop_times, &out[..n], times, paths, t)
-        }
+    match gtfs_write_transfers::write_transfers(paths, t.split, out) {
+        Err(refusal) => gtfs_telling::print_refused(rt, refusal),
+        Ok(size) => match out.get(..size) {
+            Some(transfers) => read_again(rt, stop_times, transfers, times, paths, t),
+            None => Ok(()),
+        },
     }
 }
 
@@ -141,15 +118,12 @@ fn write_both(
     paths: &[u32],
     t: Told,
 ) -> io::Result<()> {
-    let written = gtfs_write_times::write_times(times, out);
-    match written {
-        Written::Refused(k) => gtfs_telling::print_refused(rt, k),
-        Written::Bytes(n) => {
-            if out.len() < n {
-                return Ok(());
-            }
-            write_paths(rt, &out[..n], more, times, paths, t)
-        }
+    match gtfs_write_times::write_times(times, out) {
+        Err(refusal) => gtfs_telling::print_refused(rt, refusal),
+        Ok(size) => match out.get(..size) {
+            Some(stop_times) => write_paths(rt, stop_times, more, times, paths, t),
+            None => Ok(()),
+        },
     }
 }
 

@@ -19,7 +19,7 @@ use Rattle.feed.specs.Rows.{time_with, time_rows_in, transfer_with, transfer_row
 use Rattle.feed.specs.Writing.{line_with, position_after, time_text, times_text, times_header, write_times, span_text, transfer_text, transfers_text, transfers_header, write_transfers}
 use Rattle.feed.proofs.Rows.{fours_length}
 use Rattle.feed.proofs.Faultless.{TimeRight, time_right, times_first, times_rest, trip_inside, stop_inside, TransferRight, transfer_right, transfers_first, transfers_rest}
-use Rattle.gtfs_write.specs.declared.Written.{Written}
+use Rattle.std.specs.Prelude.{Result}
 use Rattle.gtfs_write.specs.Written.{LIMITS, Whole, whole_rows, answered}
 use Rattle.gtfs_write.proofs.Tests.{whole_rows_lem}
 use Rattle.gtfs_write_times.specs.WrittenTimes.{written_times}
@@ -31,7 +31,7 @@ use Rattle.gtfs_c.specs.FeedFace.{writing_size}
 -- the size that is told is the text's, where the rows are whole and have no fault
 told_few : (rows : Bool) (fault size room : ℕ) → (rows ≡ true → fault ≡ 0 → size < 4_294_967_296)
     → writing_size (answered rows fault size room) < 4_294_967_296
-unfolding answered writing_size
+unfolding answered
 told_few false fault size room f = omega arith
 told_few true (suc k) size room f = omega arith
 told_few true zero size room f = split (leb size room) (λ e. rw e (f refl refl)) (λ e. rw e (omega arith))
@@ -83,7 +83,7 @@ times_text_lem w h e =
       times_few (time_rows_in w) none_seen 0 0 e (omega (arith, h.few)),
     )
 
-pub times_size : (w : List ℕ) (room : ℕ) {x : Written} → x ≡ written_times w room → writing_size x < 4_294_967_296
+pub times_size : (w : List ℕ) (room : ℕ) {x : Result ℕ ℕ} → x ≡ written_times w room → writing_size x < 4_294_967_296
 unfolding written_times
 times_size w room e =
     rw e
@@ -145,7 +145,7 @@ transfers_text_lem w stops h e =
       transfers_few (transfer_rows_in w) stops e,
     )
 
-pub transfers_size : (w : List ℕ) (stops room : ℕ) {x : Written} → x ≡ written_transfers w stops room → writing_size x < 4_294_967_296
+pub transfers_size : (w : List ℕ) (stops room : ℕ) {x : Result ℕ ℕ} → x ≡ written_transfers w stops room → writing_size x < 4_294_967_296
 unfolding written_transfers
 transfers_size w stops room e =
     rw e

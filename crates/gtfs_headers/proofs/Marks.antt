@@ -1,43 +1,47 @@
 -- The three bytes that mark UTF-8: whether a file begins with them.
 -- Assumes nothing.
-use Prim.Native.Nat.{ℕ, ◌<◌, ◌≤◌}
+use Prim.Native.Nat.{ℕ, ◌≤◌}
 use mathlib.Core.Path.{◌≡◌, refl, sym, ap, ◌∙◌}
-use mathlib.Core.Bool.{Bool, true, false, ◌&&◌}
-use mathlib.Core.List.{List}
+use mathlib.Core.Bool.{Bool, true, false, cond}
+use mathlib.Core.List.{List, [], ◌∷◌}
 use native.Mathlib.Omega.{arith}
 use lib.Dec.{eqb}
-use lib.ListN.{length, get_or, drop, length-drop, get_or-eq_default}
-use borrow.Author.Tests.{eq-eqb, ne_eqb}
+use lib.ListN.{length, drop, length-drop}
+use borrow.Author.Tests.{eqb-true, eqb-false, eq-eqb, ne_eqb}
+use Rattle.base.proofs.Choice.{split}
+use Rattle.std.specs.List.{starts_with}
 use Rattle.feed.specs.Reading.{without_mark}
 
-and_false : (a : Bool) → a && false ≡ false
-and_false true = refl
-and_false false = refl
+eqb_sym : (m n : ℕ) → eqb m n ≡ eqb n m
+eqb_sym m n =
+    split (eqb n m) (λ t. rw t (eq-eqb m n (sym (eqb-true n m t)))) (λ t. rw t (ne_eqb m n (λ e. eqb-false n m t (sym e))))
 
-module _ (b : List ℕ) where
-  pub mark_short : length b < 3 → drop 0 b ≡ without_mark b
-  unfolding without_mark
-  mark_short h =
-      let z : get_or b 2 0 ≡ 0 = get_or-eq_default b 0 (omega arith) in
-      rw (z, and_false (eqb (get_or b 0 0) 239 && eqb (get_or b 1 0) 187))
+-- a file that begins with them, by its first bytes
+mark_is : (b : List ℕ) → without_mark b ≡ cond (starts_with eqb b (239 ∷ 187 ∷ 191 ∷ [])) (drop 3 b) b
+unfolding without_mark
+mark_is [] = refl
+mark_is (x ∷ []) = split (eqb x 239) (λ t. rw (eqb_sym 239 x, t)) (λ t. rw (eqb_sym 239 x, t))
+mark_is (x ∷ y ∷ []) =
+    split (eqb x 239)
+    (λ t. split (eqb y 187) (λ u. rw (eqb_sym 239 x, eqb_sym 187 y, t, u)) (λ u. rw (eqb_sym 239 x, eqb_sym 187 y, t, u)))
+    (λ t. rw (eqb_sym 239 x, t))
+mark_is (x ∷ y ∷ z ∷ b) =
+    split (eqb x 239)
+    (λ t.
+    split (eqb y 187)
+    (λ u.
+    split (eqb z 191)
+    (λ v. rw (eqb_sym 239 x, eqb_sym 187 y, eqb_sym 191 z, t, u, v))
+    (λ v. rw (eqb_sym 239 x, eqb_sym 187 y, eqb_sym 191 z, t, u, v)))
+    (λ u. rw (eqb_sym 239 x, eqb_sym 187 y, t, u)))
+    (λ t. rw (eqb_sym 239 x, t))
 
-  pub mark_other : (get_or b 0 0 ≡ 239 → ⊥) → drop 0 b ≡ without_mark b
-  unfolding without_mark
-  mark_other x = rw (ne_eqb (get_or b 0 0) 239 x)
+module _ (b : List ℕ) {c : Bool} (q : c ≡ starts_with eqb b (239 ∷ 187 ∷ 191 ∷ [])) where
+  pub mark_there : c ≡ true → drop 3 b ≡ without_mark b
+  mark_there t = sym (mark_is b ∙ rw (sym q ∙ t))
 
-  module _ (x : get_or b 0 0 ≡ 239) where
-    pub mark_second : (get_or b 1 0 ≡ 187 → ⊥) → drop 0 b ≡ without_mark b
-    unfolding without_mark
-    mark_second y = rw (eq-eqb (get_or b 0 0) 239 x, ne_eqb (get_or b 1 0) 187 y)
-
-    module _ (y : get_or b 1 0 ≡ 187) where
-      pub mark_third : (get_or b 2 0 ≡ 191 → ⊥) → drop 0 b ≡ without_mark b
-      unfolding without_mark
-      mark_third z = rw (eq-eqb (get_or b 0 0) 239 x, eq-eqb (get_or b 1 0) 187 y, ne_eqb (get_or b 2 0) 191 z)
-
-      pub mark_there : get_or b 2 0 ≡ 191 → drop 3 b ≡ without_mark b
-      unfolding without_mark
-      mark_there z = rw (eq-eqb (get_or b 0 0) 239 x, eq-eqb (get_or b 1 0) 187 y, eq-eqb (get_or b 2 0) 191 z)
+  pub mark_missing : c ≡ false → b ≡ without_mark b
+  mark_missing t = sym (mark_is b ∙ rw (sym q ∙ t))
 
 -- what is dropped of a file has one end
 pub start_ends : (b : List ℕ) (r r' : ℕ) → r ≤ length b → r' ≤ length b → drop r b ≡ without_mark b → drop r' b ≡ without_mark b → r ≡ r'

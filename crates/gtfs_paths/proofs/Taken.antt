@@ -15,24 +15,22 @@ use Rattle.feed.specs.declared.TransferSpans.{TransferSpans}
 use Rattle.gtfs_rows.specs.Named.{names_with}
 use Rattle.gtfs_rows.proofs.Naming.{booked_here}
 use Rattle.gtfs_paths.specs.declared.PathsReached.{PathsReached}
-use Rattle.gtfs_paths.specs.declared.PathPlan.{PathPlan}
-use Rattle.gtfs_paths.specs.declared.PathPlan.TheVariants.{Enter, Full}
-use Rattle.gtfs_paths.specs.declared.PathTook.{PathTook}
-use Rattle.gtfs_paths.specs.declared.PathTook.TheVariants.{Kept, Full as NoRow}
+use Rattle.gtfs_paths.specs.declared.PathNumbers.{PathNumbers}
+use Rattle.std.specs.Prelude.{Option, None, Some}
 use Rattle.gtfs_paths.specs.Taking.{path_plan, path_shelf, after_path, PathEnters, PathTakeable, path_in, path_took_by, PathTakes}
 use Rattle.gtfs_paths.proofs.Taking.{Fits, plan_fits}
 
 module _ {first second : List ℕ} {room : Room} {at : PathsReached} {v : TransferSpans} {p s : List ℕ}
-    (h : PathTakeable first second room at v p s) {d : PathPlan}
+    (h : PathTakeable first second room at v p s) {d : Option PathNumbers}
     (y : d ≡ path_plan room (names_in first second (path_shelf room at) s) at.transfers (text_at second v.from) (text_at second v.to)) where
   is_in : path_in first second room at v s ≡ d
   unfolding path_in
   is_in = sym y
 
-  pub plan_enters : {from to : ℕ} → d ≡ Enter from to → PathEnters first second room at (record { from = from; to = to; line = v }) p s
-  plan_enters {from} {to} z =
+  pub plan_enters : (e : PathNumbers) → d ≡ Some e → PathEnters first second room at (record { from = e.from; to = e.to; line = v }) p s
+  plan_enters e z =
       let n : at.stops ≡ length (names_in first second (path_shelf room at) s) = booked_count (booked_here h.book) in
-      let w : Fits room (names_in first second (path_shelf room at) s) at.transfers (Enter from to) =
+      let w : Fits room (names_in first second (path_shelf room at) s) at.transfers (Some e) =
       rw (sym y ∙ z) at (plan_fits room (names_in first second (path_shelf room at) s) at.transfers (text_at second v.from) (text_at second v.to)) in
       record {
         named_both = record {
@@ -51,15 +49,15 @@ module _ {first second : List ℕ} {room : Room} {at : PathsReached} {v : Transf
         row_next = h.row_next;
       }
 
-  pub took_kept : {from to : ℕ} → d ≡ Enter from to → {r : PathTook} (at' : PathsReached) {p' s' : List ℕ} → r ≡ Kept at'
-      → at' ≡ after_path at (record { from = from; to = to; line = v })
-      → p' ≡ with_bytes p (4 * at.transfers) (from ∷ to ∷ v.kind ∷ v.span ∷ [])
+  pub took_kept : (e : PathNumbers) → d ≡ Some e → {r : Option PathsReached} (at' : PathsReached) {p' s' : List ℕ} → r ≡ Some at'
+      → at' ≡ after_path at (record { from = e.from; to = e.to; line = v })
+      → p' ≡ with_bytes p (4 * at.transfers) (e.from ∷ e.to ∷ v.kind ∷ v.span ∷ [])
       → Booked first second (path_shelf room at') s s'
-      (names_with (names_with (names_in first second (path_shelf room at) s) from (text_at second v.from)) to (text_at second v.to))
+      (names_with (names_with (names_in first second (path_shelf room at) s) e.from (text_at second v.from)) e.to (text_at second v.to))
       → PathTakes first second room at v r p s p' s'
   unfolding path_took_by
-  took_kept z at' q a ps ss = record { said = q ∙ rw (is_in, z, ← a); left = rw (is_in, z, ← a) (ps, ss) }
+  took_kept e z at' q a ps ss = record { said = q ∙ rw (is_in, z, ← a); left = rw (is_in, z, ← a) (ps, ss) }
 
-  pub took_full : d ≡ Full → PathTakes first second room at v NoRow p s p s
+  pub took_full : d ≡ None → (r : Option PathsReached) → r ≡ None → PathTakes first second room at v r p s p s
   unfolding path_took_by
-  took_full z = record { said = rw (is_in, z); left = rw (is_in, z) (refl, refl) }
+  took_full z r e = record { said = rw (is_in, z, e); left = rw (is_in, z) (refl, refl) }

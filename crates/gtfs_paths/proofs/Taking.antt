@@ -3,12 +3,12 @@
 use Prim.Native.Nat.{ℕ, ◌+◌, ◌≤◌, ◌<◌}
 use mathlib.Core.Path.{◌≡◌, refl, sym, ap, ◌∙◌}
 use mathlib.Core.Bool.{true, false}
-use mathlib.Core.Option.{Option, none, some}
+use Rattle.std.specs.Prelude.{Option, None, Some}
 use mathlib.Core.List.{List}
 use native.Mathlib.Omega.{arith}
 use lib.Dec.{ltb, leb, eqb}
 use lib.ListN.{length}
-use borrow.Author.Tests.{ltb-true, ltb-false, lt-ltb, le-ltb, le-leb, lt-leb, eqb-true, eqb-false}
+use borrow.Author.Tests.{ltb-true, ltb-false, le-leb, lt-leb, eqb-true, eqb-false}
 use Rattle.base.proofs.Choice.{split}
 use Rattle.columns.specs.declared.Span.{Span}
 use Rattle.columns.specs.Picks.{text_at}
@@ -24,8 +24,7 @@ use Rattle.gtfs_rows.proofs.Named.{with_named}
 use Rattle.gtfs_rows.proofs.Naming.{booked_on}
 use Rattle.gtfs_paths.specs.declared.PathsReached.{PathsReached}
 use Rattle.gtfs_paths.specs.declared.PathEntry.{PathEntry}
-use Rattle.gtfs_paths.specs.declared.PathPlan.{PathPlan}
-use Rattle.gtfs_paths.specs.declared.PathPlan.TheVariants.{Enter, Full}
+use Rattle.gtfs_paths.specs.declared.PathNumbers.{PathNumbers}
 use Rattle.gtfs_paths.specs.Taking.{path_by, path_plan, with_transfer, after_path}
 
 -- ---- how many have appeared
@@ -40,10 +39,10 @@ seen_over n i cap h k l =
 
 -- ---- the plan
 -- of a row that is taken: each number is known or the next, and there is room
-abbrev pub Fits : Room → List (List ℕ) → ℕ → PathPlan → Type 0
-Fits room names rows (Enter from to) =
-    (from ≤ length names) × (to ≤ seen_after (length names) from) × (from < room.stops) × (to < room.stops) × (rows < room.transfers)
-Fits room names rows Full = Unit {0}
+abbrev pub Fits : Room → List (List ℕ) → ℕ → Option PathNumbers → Type 0
+Fits room names rows (Some n) =
+    (n.from ≤ length names) × (n.to ≤ seen_after (length names) n.from) × (n.from < room.stops) × (n.to < room.stops) × (rows < room.transfers)
+Fits room names rows None = Unit {0}
 
 pub plan_fits : (room : Room) (names : List (List ℕ)) (rows : ℕ) (t u : List ℕ) → Fits room names rows (path_plan room names rows t u)
 unfolding path_plan path_by
@@ -65,9 +64,9 @@ plan_fits room names rows t u =
     (λ p. rw p tt)
 
 -- of a feed that takes a line or has no room
-abbrev pub Plans : Room → TransferLine → Feed → Option Feed → PathPlan → Type 0
-Plans room l f o (Enter from to) = o ≡ some (with_transfer f l from to)
-Plans room l f o Full = o ≡ none
+abbrev pub Plans : Room → TransferLine → Feed → Option Feed → Option PathNumbers → Type 0
+Plans room l f o (Some n) = o ≡ Some (with_transfer f l n.from n.to)
+Plans room l f o None = o ≡ None
 
 pub plan_right : (room : Room) (l : TransferLine) (f : Feed) → length f.stops ≤ room.stops
     → Plans room l f (take_transfer room l f) (path_plan room f.stops (length f.transfers) l.from l.to)
@@ -102,25 +101,6 @@ plan_right room l f few =
     let h : leb (length far) cap ≡ false =
     lt-leb (length far) cap (omega (arith, a, b, seen_over (length ns) i cap c few (ltb-false i cap p), seen_least (length near) j)) in
     rw (p, h) refl)
-
--- ---- as the code goes
-module _ (room : Room) (rows : ℕ) {from : ℕ} (names : List (List ℕ)) (t u : List ℕ) (ef : from ≡ number_of names t) where
-  pub no_near : room.stops ≤ from → Full ≡ path_plan room names rows t u
-  unfolding path_plan path_by
-  no_near h = rw (← ef, le-ltb from room.stops h)
-
-  module _ (h : from < room.stops) {to : ℕ} (et : to ≡ number_of (named names t) u) where
-    pub no_far : room.stops ≤ to → Full ≡ path_plan room names rows t u
-    unfolding path_plan path_by
-    no_far k = rw (← ef, ← et, lt-ltb from room.stops h, le-ltb to room.stops k)
-
-    pub no_path : to < room.stops → room.transfers ≤ rows → Full ≡ path_plan room names rows t u
-    unfolding path_plan path_by
-    no_path k m = rw (← ef, ← et, lt-ltb from room.stops h, lt-ltb to room.stops k, le-ltb rows room.transfers m)
-
-    pub a_path : to < room.stops → rows < room.transfers → Enter from to ≡ path_plan room names rows t u
-    unfolding path_plan path_by
-    a_path k m = rw (← ef, ← et, lt-ltb from room.stops h, lt-ltb to room.stops k, lt-ltb rows room.transfers m)
 
 -- ---- a row that is entered: both names
 pub both_booked : {first second : List ℕ} {cap cut n m : ℕ} {w w' w'' : List ℕ} {names : List (List ℕ)} (to : ℕ) (far : Span)

@@ -1,5 +1,5 @@
 -- What becomes of a row of transfers.txt: the numbers of its two stops where it is taken, or that there is no room.
-use Rattle.std.specs.Prelude.{ℕ, ◌+◌, ◌*◌, ◌≤◌, ◌<◌, ◌≡◌, cond, List, [], ◌∷◌, ◌++◌, ltb, length}
+use Rattle.std.specs.Prelude.{ℕ, ◌+◌, ◌*◌, ◌≤◌, ◌<◌, ◌≡◌, cond, List, [], ◌∷◌, ◌++◌, ltb, length, Option, None, Some}
 use Rattle.base.specs.Put.{with_bytes}
 use Rattle.columns.specs.Picks.{text_at, Spanned}
 use Rattle.names.specs.declared.Shelf.{Shelf}
@@ -12,19 +12,16 @@ use Rattle.feed.specs.Transfers.{TransferLine}
 use Rattle.feed.specs.Orderly.{seen_after}
 use Rattle.gtfs_rows.specs.Named.{names_with}
 use Rattle.gtfs_paths.specs.declared.PathsReached.{PathsReached}
-use Rattle.gtfs_paths.specs.declared.PathPlan.{PathPlan}
-use Rattle.gtfs_paths.specs.declared.PathPlan.TheVariants.{Enter, Full}
+use Rattle.gtfs_paths.specs.declared.PathNumbers.{PathNumbers}
 use Rattle.gtfs_paths.specs.declared.PathEntry.{PathEntry}
-use Rattle.gtfs_paths.specs.declared.PathTook.{PathTook}
-use Rattle.gtfs_paths.specs.declared.PathTook.TheVariants.{Kept, Full as NoRoom}
 
 -- a row between stops of these numbers, while there is room
-unfoldable pub path_by : Room → ℕ → ℕ → ℕ → PathPlan
+unfoldable pub path_by : Room → ℕ → ℕ → ℕ → Option PathNumbers
 path_by room rows from to =
-    cond (ltb from room.stops) (cond (ltb to room.stops) (cond (ltb rows room.transfers) (Enter from to) Full) Full) Full
+    cond (ltb from room.stops) (cond (ltb to room.stops) (cond (ltb rows room.transfers) (Some (record { from = from; to = to })) None) None) None
 
 -- behind so many rows, where these stops are named
-unfoldable pub path_plan : Room → List (List ℕ) → ℕ → List ℕ → List ℕ → PathPlan
+unfoldable pub path_plan : Room → List (List ℕ) → ℕ → List ℕ → List ℕ → Option PathNumbers
 path_plan room names rows t u = path_by room rows (number_of names t) (number_of (named names t) u)
 
 -- a feed with one row more, by the numbers of its stops
@@ -86,22 +83,22 @@ pub record PathTakeable (first second : List ℕ) (room : Room) (at : PathsReach
   pub row_next : at.transfers < 4_294_967_295
 
 -- the plan of a line, by the book
-unfoldable pub path_in : List ℕ → List ℕ → Room → PathsReached → TransferSpans → List ℕ → PathPlan
+unfoldable pub path_in : List ℕ → List ℕ → Room → PathsReached → TransferSpans → List ℕ → Option PathNumbers
 path_in first second room at v stops =
     path_plan room (names_in first second (path_shelf room at) stops) at.transfers (text_at second v.from) (text_at second v.to)
 
-unfoldable pub path_took_by : PathsReached → TransferSpans → PathPlan → PathTook
-path_took_by at v (Enter from to) = Kept (after_path at (record { from = from; to = to; line = v }))
-path_took_by at v Full = NoRoom
+unfoldable pub path_took_by : PathsReached → TransferSpans → Option PathNumbers → Option PathsReached
+path_took_by at v (Some n) = Some (after_path at (record { from = n.from; to = n.to; line = v }))
+path_took_by at v None = None
 
 -- the words of a row go behind the others, new names behind the names; nothing is touched where there is no row
-abbrev pub PathLeftBy : List ℕ → List ℕ → Room → PathsReached → TransferSpans → PathPlan → List ℕ → List ℕ → List ℕ → List ℕ → Type 0
-PathLeftBy first second room at v (Enter from to) p s p' s' =
-    (p' ≡ with_bytes p (4 * at.transfers) (path_words (record { from = from; to = to; line = v })))
-    × Booked first second (path_shelf room (after_path at (record { from = from; to = to; line = v }))) s s'
-    (path_named first second room at (record { from = from; to = to; line = v }) s)
-PathLeftBy first second room at v Full p s p' s' = (p' ≡ p) × (s' ≡ s)
+abbrev pub PathLeftBy : List ℕ → List ℕ → Room → PathsReached → TransferSpans → Option PathNumbers → List ℕ → List ℕ → List ℕ → List ℕ → Type 0
+PathLeftBy first second room at v (Some n) p s p' s' =
+    (p' ≡ with_bytes p (4 * at.transfers) (path_words (record { from = n.from; to = n.to; line = v })))
+    × Booked first second (path_shelf room (after_path at (record { from = n.from; to = n.to; line = v }))) s s'
+    (path_named first second room at (record { from = n.from; to = n.to; line = v }) s)
+PathLeftBy first second room at v None p s p' s' = (p' ≡ p) × (s' ≡ s)
 
-pub record PathTakes (first second : List ℕ) (room : Room) (at : PathsReached) (v : TransferSpans) (r : PathTook) (p s p' s' : List ℕ) : Type 0 where
+pub record PathTakes (first second : List ℕ) (room : Room) (at : PathsReached) (v : TransferSpans) (r : Option PathsReached) (p s p' s' : List ℕ) : Type 0 where
   pub said : r ≡ path_took_by at v (path_in first second room at v s)
   pub left : PathLeftBy first second room at v (path_in first second room at v s) p s p' s'

@@ -25,11 +25,24 @@ pub struct PathsReached {
     pub transfers: u32,
 }
 
-// The numbers of a row's two stops, or that there is no room.
+impl PathsReached {
+    // The stops that are named so far, as the book of both files has them.
+    fn shelf(self, room: Room) -> Shelf
+        ensures { result ≡ path_shelf room self }
+    {
+        Shelf {
+            cap: room.stops,
+            split: self.split,
+            count: self.stops,
+        }
+    }
+}
+
+// The numbers of a row's two stops.
 #[derive(Clone, Copy)]
-pub enum PathPlan {
-    Enter { from: u32, to: u32 },
-    Full,
+pub struct PathNumbers {
+    pub from: u32,
+    pub to: u32,
 }
 
 // A row that is taken: the numbers of its stops, and the values of its line.
@@ -38,13 +51,6 @@ pub struct PathEntry {
     pub from: u32,
     pub to: u32,
     pub line: TransferSpans,
-}
-
-// How far a row that was taken brought the reading, or that there was no room.
-#[derive(Clone, Copy)]
-pub enum PathTook {
-    Kept(PathsReached),
-    Full,
 }
 
 // The number of a row's second stop, once the first has its number `from`.
@@ -78,7 +84,8 @@ fn second_number(
     shelf.count + 1
 }
 
-// What becomes of a line that goes from one stop to another.
+// The numbers of a line's stops; nothing where there is no room.
+#[tactic(auto, unfolding(crate::specs::Taking::path_plan, crate::specs::Taking::path_by))]
 pub fn plan_of(
     first: &[u8],
     second: &[u8],
@@ -86,32 +93,23 @@ pub fn plan_of(
     room: Room,
     at: PathsReached,
     line: TransferSpans,
-) -> PathPlan
+) -> Option<PathNumbers>
     requires book { Book first.now second.now (path_shelf room at) stops.now }
     requires spanned { Spanned second.now line.from }
     requires spanned_2 { Spanned second.now line.to }
     ensures { result ≡ path_plan room (names_in first.now second.now (path_shelf room at) stops.now)
         at.transfers (text_at second.now line.from) (text_at second.now line.to) }
 {
-    let near = line.from;
-    let far = line.to;
-    let shelf = Shelf {
-        cap: room.stops,
-        split: at.split,
-        count: at.stops,
-    };
-    let from = books::number_of(first, second, stops, shelf, near);
+    let shelf = at.shelf(room);
+    let from = books::number_of(first, second, stops, shelf, line.from);
     if room.stops <= from {
-        return PathPlan::Full;
+        return None;
     }
-    let to = second_number(first, second, stops, shelf, from, near, far);
-    if room.stops <= to {
-        return PathPlan::Full;
+    let to = second_number(first, second, stops, shelf, from, line.from, line.to);
+    if room.stops <= to || room.transfers <= at.transfers {
+        return None;
     }
-    if room.transfers <= at.transfers {
-        return PathPlan::Full;
-    }
-    PathPlan::Enter { from: from, to: to }
+    Some(PathNumbers { from, to })
 }
 
 // Puts the two stops of a row into the book where they are new; how many stops have a name then.
@@ -128,21 +126,14 @@ fn name_both(
     ensures booked { Booked first.now second.now (counting (path_shelf room at) result) stops.old
         stops.new (path_named first.now second.now room at entry stops.old) }
 {
-    let line = entry.line;
-    let near = line.from;
-    let far = line.to;
-    let shelf = Shelf {
-        cap: room.stops,
-        split: at.split,
-        count: at.stops,
-    };
-    let one = books::name(first, second, stops, shelf, entry.from, near);
+    let shelf = at.shelf(room);
+    let one = books::name(first, second, stops, shelf, entry.from, entry.line.from);
     let wider = Shelf {
         cap: room.stops,
         split: at.split,
         count: one,
     };
-    books::name(first, second, stops, wider, entry.to, far)
+    books::name(first, second, stops, wider, entry.to, entry.line.to)
 }
 
 // Takes a row: its names into the book, its words behind the others.
@@ -187,21 +178,12 @@ pub fn take(
     room: Room,
     at: PathsReached,
     line: TransferSpans,
-) -> PathTook
+) -> Option<PathsReached>
     requires { PathTakeable first.now second.now room at line paths.old stops.old }
     ensures { PathTakes first.now second.now room at line result paths.old stops.old
         paths.new stops.new }
 {
-    let plan = plan_of(first, second, stops, room, at, line);
-    match plan {
-        PathPlan::Enter { from: f, to: t } => {
-            let entry = PathEntry {
-                from: f,
-                to: t,
-                line: line,
-            };
-            return PathTook::Kept(enter(first, second, paths, stops, room, at, entry));
-        }
-        PathPlan::Full => return PathTook::Full,
-    }
+    let PathNumbers { from, to } = plan_of(first, second, stops, room, at, line)?;
+    let entry = PathEntry { from, to, line };
+    Some(enter(first, second, paths, stops, room, at, entry))
 }

@@ -16,7 +16,7 @@ use Rattle.feed.proofs.RoundTrip.{written_reads}
 use Rattle.feed.proofs.Widening.{orderly_wider}
 use Rattle.gtfs_read.specs.declared.Told.{Told}
 use Rattle.gtfs_read.specs.Reads.{LentFeed, feed_room, is_too_long, number_for, line_for, file_for, split_of, Reads}
-use Rattle.gtfs_write.specs.declared.Written.TheVariants.{Bytes}
+use Rattle.std.specs.Prelude.{Ok}
 use Rattle.gtfs_write.specs.Written.{LIMITS, whole_rows}
 use Rattle.gtfs_write_times.specs.WrittenTimes.{written_times}
 use Rattle.gtfs_write_transfers.specs.WrittenTransfers.{written_transfers}
@@ -72,17 +72,17 @@ module _ (w x : List ℕ) {l : LentFeed} {r : Told} {l' : LentFeed} (o : Orderly
   }
 
 -- ---- what the writers have found
-times_accepted : {w out out' : List ℕ} {n : ℕ} → WroteTimes w out (Bytes n) out'
+times_accepted : {w out out' : List ℕ} {n : ℕ} → WroteTimes w out (Ok n) out'
     → Accepts (whole_rows 262_144 w) (times_fault LIMITS none_seen (time_rows_in w)) (length (write_times (time_rows_in w))) (length out) n
 unfolding written_times
 times_accepted {w} {out} h =
     accepted (whole_rows 262_144 w) (times_fault LIMITS none_seen (time_rows_in w)) (length (write_times (time_rows_in w))) (length out) h.said
 
-pub times_text_lem : {w out out' : List ℕ} {n : ℕ} → WroteTimes w out (Bytes n) out' → take n out' ≡ write_times (time_rows_in w)
+pub times_text_lem : {w out out' : List ℕ} {n : ℕ} → WroteTimes w out (Ok n) out' → take n out' ≡ write_times (time_rows_in w)
 times_text_lem {w} {out} {out'} {n} h =
     let z = times_accepted h in text_held n out (write_times (time_rows_in w)) z.bytes z.fits h.held
 
-module _ {w : List ℕ} {stops : ℕ} {out out' : List ℕ} {n : ℕ} (h : WroteTransfers w stops out (Bytes n) out') where
+module _ {w : List ℕ} {stops : ℕ} {out out' : List ℕ} {n : ℕ} (h : WroteTransfers w stops out (Ok n) out') where
   abbrev text : List ℕ
   text = write_transfers (transfer_rows_in w)
 
@@ -95,8 +95,8 @@ module _ {w : List ℕ} {stops : ℕ} {out out' : List ℕ} {n : ℕ} (h : Wrote
       let z = transfers_accepted in text_held n out (write_transfers (transfer_rows_in w)) z.bytes z.fits h.held
 
 -- ---- any words that the writers take
-module _ {w out₁ out₁' : List ℕ} {n₁ : ℕ} (first : WroteTimes w out₁ (Bytes n₁) out₁')
-    {x out₂ out₂' : List ℕ} {n₂ : ℕ} (second : WroteTransfers x (stops_in w) out₂ (Bytes n₂) out₂') where
+module _ {w out₁ out₁' : List ℕ} {n₁ : ℕ} (first : WroteTimes w out₁ (Ok n₁) out₁')
+    {x out₂ out₂' : List ℕ} {n₂ : ℕ} (second : WroteTransfers x (stops_in w) out₂ (Ok n₂) out₂') where
   pub written_orderly : Orderly LIMITS (time_rows_in w) (transfer_rows_in x)
   unfolding stops_in time_rows_in transfer_rows_in
   written_orderly =
@@ -121,8 +121,8 @@ module _ {w out₁ out₁' : List ℕ} {n₁ : ℕ} (first : WroteTimes w out₁
 
 -- ---- whatever was read
 module _ {a b : List ℕ} {l : LentFeed} {r : Told} {l' : LentFeed} (m : Reads a b l r l')
-    {out₁ out₁' : List ℕ} {n₁ : ℕ} (first : WroteTimes (time_words_read r l') out₁ (Bytes n₁) out₁')
-    {out₂ out₂' : List ℕ} {n₂ : ℕ} (second : WroteTransfers (transfer_words_read r l') r.split out₂ (Bytes n₂) out₂')
+    {out₁ out₁' : List ℕ} {n₁ : ℕ} (first : WroteTimes (time_words_read r l') out₁ (Ok n₁) out₁')
+    {out₂ out₂' : List ℕ} {n₂ : ℕ} (second : WroteTransfers (transfer_words_read r l') r.split out₂ (Ok n₂) out₂')
     {k : LentFeed} {r' : Told} {k' : LentFeed} (again : Reads (take n₁ out₁') (take n₂ out₂') k r' k') (sizes : SameSizes l k) where
   reread : GivesBack (time_words_read r l') (transfer_words_read r l') r' k'
   reread =

@@ -7,24 +7,46 @@ use mathlib.Core.Logic.{◌↔◌}
 use mathlib.Core.List.{List}
 use native.Mathlib.Omega.{arith}
 use Rattle.base.proofs.Choice.{split}
-use Rattle.feed.specs.Feed.{Feed, done, bad_times, bad_transfers, full, Got}
+use Rattle.feed.specs.Feed.{End, Feed, done, bad_times, bad_transfers, full, Got}
 use Rattle.feed.specs.Refused.{BadInTimes, BadInTransfers, FullAt, AllTaken}
 use Rattle.feed.specs.Refused.{Ends, ends_done, ends_bad_times, ends_bad_transfers, ends_full}
 use Rattle.feed.proofs.Meaning.{read_ends}
 use Rattle.feed.proofs.Exactly.{ends_exactly}
 use Rattle.gtfs_read.specs.declared.Told.{Told}
-use Rattle.gtfs_read.specs.Reads.{LentFeed, feed_room, is_too_long, number_for, line_for, file_for, told_by, split_of, refused_long, Reads}
+use Rattle.gtfs_read.specs.Reads.{LentFeed, feed_room, is_too_long, number_for, line_for, file_for, ended_as, ending_number, ending_line, ending_file, told_by, split_of, refused_long, Reads}
 use Rattle.gtfs_promises.specs.Answers.{TooLong, BothShort, AnswersWith, Answers, all_read, file_too_long, stop_times_line_bad, transfers_line_bad, table_full}
 use Rattle.gtfs_promises.specs.Tables.{Holds, ReadUntil}
 use Rattle.gtfs_promises.proofs.Keeps.{long_test, short_test, test_long, test_short, long_told, short_told, read_holds}
+
+-- the code's ending and that of the definitions have the same number, line and file
+number_ended : (z : End) → ending_number (ended_as z) ≡ number_for z
+unfolding ended_as number_for
+number_ended done = refl
+number_ended (bad_times k) = refl
+number_ended (bad_transfers k) = refl
+number_ended full = refl
+
+line_ended : (z : End) → ending_line (ended_as z) ≡ line_for z
+unfolding ended_as line_for
+line_ended done = refl
+line_ended (bad_times k) = refl
+line_ended (bad_transfers k) = refl
+line_ended full = refl
+
+file_ended : (z : End) → ending_file (ended_as z) ≡ file_for z
+unfolding ended_as file_for
+file_ended done = refl
+file_ended (bad_times k) = refl
+file_ended (bad_transfers k) = refl
+file_ended full = refl
 
 -- what an answer says, by how the reading ended
 pub told_says : {r : Told} (split : ℕ) (g : Got) → r ≡ told_by split g → AnswersWith r (number_for g.end) (line_for g.end) (file_for g.end)
 unfolding told_by
 told_says split g e = record {
-  number_is = ap (λ (x : Told). x.number) e;
-  line_is = ap (λ (x : Told). x.line) e;
-  file_is = ap (λ (x : Told). x.file) e;
+  number_is = ap (λ (x : Told). ending_number x.ending) e ∙ number_ended g.end;
+  line_is = ap (λ (x : Told). ending_line x.ending) e ∙ line_ended g.end;
+  file_is = ap (λ (x : Told). ending_file x.ending) e ∙ file_ended g.end;
 }
 
 -- the five answers, each with what it means
@@ -55,9 +77,9 @@ module _ {a b : List ℕ} {l : LentFeed} {r : Told} {l' : LentFeed} (m : Reads a
   long_says : is_too_long a b ≡ true → AnswersWith r 1 0 0
   unfolding refused_long
   long_says s = let e = long_told m s in record {
-    number_is = ap (λ (x : Told). x.number) e;
-    line_is = ap (λ (x : Told). x.line) e;
-    file_is = ap (λ (x : Told). x.file) e;
+    number_is = ap (λ (x : Told). ending_number x.ending) e;
+    line_is = ap (λ (x : Told). ending_line x.ending) e;
+    file_is = ap (λ (x : Told). ending_file x.ending) e;
   }
 
   meaning : Meant a b l r l'

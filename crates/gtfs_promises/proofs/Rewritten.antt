@@ -17,7 +17,8 @@ use Rattle.feed.specs.Writing.{line_with, position_after, time_text, times_text,
 use Rattle.feed.specs.Writing.{transfers_text, transfers_header, write_transfers}
 use Rattle.gtfs_read.specs.declared.Told.{Told}
 use Rattle.gtfs_read.specs.Reads.{LentFeed, lent_feed, Reads}
-use Rattle.gtfs_write.specs.declared.Written.TheVariants.{Bytes}
+use Rattle.std.specs.Prelude.{Ok}
+use Rattle.gtfs_write.specs.declared.Unwritten.{Unwritten}
 use Rattle.gtfs_write.specs.Written.{LIMITS, whole_rows, answered, held_after}
 use Rattle.gtfs_write_times.specs.WrittenTimes.{written_times}
 use Rattle.gtfs_write_transfers.specs.WrittenTransfers.{written_transfers}
@@ -48,12 +49,12 @@ one_counted : trips_in RIDE_WORDS ≡ 1
 unfolding trips_in time_rows_in fours_in time_with after_times after_time seen_after
 one_counted = refl
 
-rides_written : written_times RIDE_WORDS 200 ≡ Bytes 106
+rides_written : written_times RIDE_WORDS 200 ≡ Ok 106
 unfolding written_times answered whole_rows times_fault time_fault stop_fits trip_fits is_moment after_time seen_after time_rows_in fours_in time_with write_times
     times_header times_text time_text position_after line_with digits digits_in clock_text two_digits trip_id arrival_time departure_time stop_id stop_sequence
 rides_written = refl
 
-walks_written : written_transfers WALK_WORDS 2 200 ≡ Bytes 65
+walks_written : written_transfers WALK_WORDS 2 200 ≡ Ok 65
 unfolding written_transfers answered whole_rows transfers_fault transfer_fault stop_fits fits_span after_transfer seen_after transfer_rows_in fours_in
     transfer_with write_transfers transfers_header transfers_text transfer_text span_text line_with digits digits_in from_stop_id to_stop_id transfer_type
     min_transfer_time
@@ -63,15 +64,15 @@ abbrev pub PAGE : List ℕ
 PAGE = tab (λ (i : ℕ). 0) 200 0
 
 abbrev pub RIDES_PAGE : List ℕ
-RIDES_PAGE = held_after (Bytes 106) PAGE (write_times (time_rows_in RIDE_WORDS))
+RIDES_PAGE = held_after {E = Unwritten} (Ok 106) PAGE (write_times (time_rows_in RIDE_WORDS))
 
 abbrev pub WALKS_PAGE : List ℕ
-WALKS_PAGE = held_after (Bytes 65) PAGE (write_transfers (transfer_rows_in WALK_WORDS))
+WALKS_PAGE = held_after {E = Unwritten} (Ok 65) PAGE (write_transfers (transfer_rows_in WALK_WORDS))
 
-pub rides_wrote : WroteTimes RIDE_WORDS PAGE (Bytes 106) RIDES_PAGE
+pub rides_wrote : WroteTimes RIDE_WORDS PAGE (Ok 106) RIDES_PAGE
 rides_wrote = record { said = rw (tab_length {A = ℕ} (λ i. 0) 200 0) (sym rides_written); held = refl }
 
-pub walks_wrote : WroteTransfers WALK_WORDS (stops_in RIDE_WORDS) PAGE (Bytes 65) WALKS_PAGE
+pub walks_wrote : WroteTransfers WALK_WORDS (stops_in RIDE_WORDS) PAGE (Ok 65) WALKS_PAGE
 walks_wrote = record { said = rw (two_stops, tab_length {A = ℕ} (λ i. 0) 200 0) (sym walks_written); held = refl }
 
 -- and they are in order
@@ -104,14 +105,14 @@ module _ {r : Told} {l' : LentFeed} (m : Reads RIDES WALKS (lent_for 3) r l') wh
   unfolding flat_transfers flat_by transfer_words
   walks_words = (read_holds m (short_test short_rides)).transfer_rows ∙ ap flat_transfers walks_read
 
-  first : WroteTimes (time_words_read r l') PAGE (Bytes 106) RIDES_PAGE
-  first = subst (λ (w : List ℕ). WroteTimes w PAGE (Bytes 106) RIDES_PAGE) (sym rides_words) rides_wrote
+  first : WroteTimes (time_words_read r l') PAGE (Ok 106) RIDES_PAGE
+  first = subst (λ (w : List ℕ). WroteTimes w PAGE (Ok 106) RIDES_PAGE) (sym rides_words) rides_wrote
 
-  second : WroteTransfers (transfer_words_read r l') r.split PAGE (Bytes 65) WALKS_PAGE
+  second : WroteTransfers (transfer_words_read r l') r.split PAGE (Ok 65) WALKS_PAGE
   second =
       let e : r.split ≡ stops_in RIDE_WORDS = (read_in_order m).split_named ∙ ap stops_in rides_words in
-      subst (λ (n : ℕ). WroteTransfers (transfer_words_read r l') n PAGE (Bytes 65) WALKS_PAGE) (sym e)
-      (subst (λ (w : List ℕ). WroteTransfers w (stops_in RIDE_WORDS) PAGE (Bytes 65) WALKS_PAGE) (sym walks_words) walks_wrote)
+      subst (λ (n : ℕ). WroteTransfers (transfer_words_read r l') n PAGE (Ok 65) WALKS_PAGE) (sym e)
+      (subst (λ (w : List ℕ). WroteTransfers w (stops_in RIDE_WORDS) PAGE (Ok 65) WALKS_PAGE) (sym walks_words) walks_wrote)
 
   -- the promises of names are about three stops and a trip
   pub three_stops : r.stops ≡ 3

@@ -13,7 +13,8 @@ use Rattle.feed.specs.Writing.{write_times, write_transfers}
 use Rattle.feed.proofs.Widening.{orderly_wider}
 use Rattle.gtfs_read.specs.declared.Told.{Told}
 use Rattle.gtfs_read.specs.Reads.{LentFeed, feed_room, Reads}
-use Rattle.gtfs_write.specs.declared.Written.{Written}
+use Rattle.std.specs.Prelude.{Result}
+use Rattle.gtfs_write.specs.declared.Unwritten.{Unwritten}
 use Rattle.gtfs_write.specs.Written.{LIMITS, whole_rows}
 use Rattle.gtfs_write_times.specs.WrittenTimes.{written_times}
 use Rattle.gtfs_write_transfers.specs.WrittenTransfers.{written_transfers}
@@ -43,19 +44,19 @@ module _ {a b : List ℕ} {l : LentFeed} {r : Told} {l' : LentFeed} (m : Reads a
   unfolding stops_in transfer_words_read
   split_right = rw order.split_named orderly_all.transfers_right
 
-  pub times_taken : {out : List ℕ} {q : Written} {out' : List ℕ} → WroteTimes w out q out' → IfRoom (write_times (time_rows_in w)) (length out) q
+  pub times_taken : {out : List ℕ} {q : Result ℕ Unwritten} {out' : List ℕ} → WroteTimes w out q out' → IfRoom (write_times (time_rows_in w)) (length out) q
   unfolding written_times
-  times_taken {out} h =
+  times_taken {out} {q} h =
       let n = (room_within l).times in
-      if_room (whole_rows 262_144 w) (times_fault LIMITS none_seen (time_rows_in w)) (length out) (write_times (time_rows_in w)) h.said
+      if_room (whole_rows 262_144 w) (times_fault LIMITS none_seen (time_rows_in w)) (length out) (write_times (time_rows_in w)) q h.said
       (rows_true 262_144 w (omega (arith, order.times_long)) (omega (arith, order.times_long, order.times_fit, n)))
       orderly_all.times_right
 
-  pub transfers_taken : {out : List ℕ} {q : Written} {out' : List ℕ} → WroteTransfers x r.split out q out'
+  pub transfers_taken : {out : List ℕ} {q : Result ℕ Unwritten} {out' : List ℕ} → WroteTransfers x r.split out q out'
       → IfRoom (write_transfers (transfer_rows_in x)) (length out) q
   unfolding written_transfers
-  transfers_taken {out} h =
+  transfers_taken {out} {q} h =
       let n = (room_within l).transfers in
-      if_room (whole_rows 16_384 x) (transfers_fault LIMITS r.split (transfer_rows_in x)) (length out) (write_transfers (transfer_rows_in x)) h.said
+      if_room (whole_rows 16_384 x) (transfers_fault LIMITS r.split (transfer_rows_in x)) (length out) (write_transfers (transfer_rows_in x)) q h.said
       (rows_true 16_384 x (omega (arith, order.transfers_long)) (omega (arith, order.transfers_long, order.transfers_fit, n)))
       split_right

@@ -17,7 +17,8 @@ use Rattle.feed.specs.Orderly.{seen_after, after_time, after_times}
 use Rattle.feed.specs.Reading.{read_feed}
 use Rattle.feed.proofs.Examples.{bytes}
 use Rattle.gtfs_read.specs.declared.Told.{Told}
-use Rattle.gtfs_read.specs.Reads.{LentFeed, lent_feed, rows_of, feed_room, number_for, line_for, file_for, told_by, split_of, told_feed}
+use Rattle.std.specs.Prelude.{Ok}
+use Rattle.gtfs_read.specs.Reads.{LentFeed, lent_feed, rows_of, feed_room, ended_as, told_by, split_of, told_feed}
 use Rattle.gtfs_read.specs.Reads.{stops_shelf, trips_shelf, Left, Reads}
 use Rattle.gtfs_promises.proofs.Keeps.{short_test}
 use Rattle.gtfs_promises.proofs.Splits.{split_counts}
@@ -33,7 +34,7 @@ WORKED =
     (1 ∷ 58 ∷ 59 ∷ 0 ∷ [])
 
 abbrev pub ANSWER : Told
-ANSWER = record { number = 0; line = 0; file = 0; stops = 3; split = 2; trips = 1; times = 2; transfers = 1 }
+ANSWER = record { ending = Ok tt; stops = 3; split = 2; trips = 1; times = 2; transfers = 1 }
 
 -- ---- the books
 -- by each number below three
@@ -103,7 +104,7 @@ unfolding feed_room rows_of lent_for tab
 one_trip = refl
 
 answered : ANSWER ≡ told_by (split_of (feed_room (lent_for 3)) RIDES) (read_feed (feed_room (lent_for 3)) RIDES WALKS)
-unfolding told_by number_for line_for file_for
+unfolding told_by ended_as
 answered = rw (rides_ended, stops_read, trips_read, rides_read, walks_read, rides_split)
 
 rows : WORKED.times ≡ with_bytes (lent_for 3).times 0 (flat_times (read_feed (feed_room (lent_for 3)) RIDES WALKS).feed.times)

@@ -1,6 +1,6 @@
 -- What a writer that answers with bytes has found and left: rows in order, and their text at the front of the buffer.
 -- Assumes nothing.
-use Prim.Native.Nat.{ℕ, zero, suc, ◌+◌, ◌≤◌, ◌<◌}
+use Prim.Native.Nat.{ℕ, zero, suc, ◌+◌, ◌≤◌}
 use mathlib.Core.Path.{◌≡◌, refl, ap}
 use mathlib.Core.Bool.{Bool, true, false}
 use mathlib.Core.List.{List}
@@ -10,20 +10,41 @@ use lib.ListN.{length, take}
 use borrow.Author.Tests.{leb-true, leb-false}
 use Rattle.base.proofs.Choice.{split}
 use Rattle.base.proofs.Put.{put_upto}
-use Rattle.gtfs_write.specs.declared.Written.{Written}
-use Rattle.gtfs_write.specs.declared.Written.TheVariants.{Bytes, Refused}
+use Rattle.std.specs.Prelude.{Result, Ok, Err}
+use Rattle.gtfs_write.specs.declared.Unwritten.{Unwritten}
+use Rattle.gtfs_write.specs.declared.Unwritten.TheVariants.{Shape, Listing, Moments, Transfers, Full}
+use Rattle.gtfs_write.specs.Refusing.{by_number}
 use Rattle.gtfs_write.specs.Written.{whole_rows, Whole, answered, held_after}
 use Rattle.gtfs_write.proofs.Tests.{whole_rows_lem}
 use Rattle.gtfs_promises.specs.Tables.{IfRoom, room_enough, room_short}
 
 -- so many bytes; one more than the number of a refusal
-bytes_of : Written → ℕ
-bytes_of (Bytes n) = n
-bytes_of (Refused k) = 0
+bytes_of : Result ℕ ℕ → ℕ
+bytes_of (Ok n) = n
+bytes_of (Err k) = 0
 
-refused_by : Written → ℕ
-refused_by (Bytes n) = 0
-refused_by (Refused k) = suc k
+refused_by : Result ℕ ℕ → ℕ
+refused_by (Ok n) = 0
+refused_by (Err k) = suc k
+
+-- an answer by its number is that answer
+ok_numbered : (r : Result ℕ Unwritten) {n : ℕ} → by_number r ≡ Ok n → r ≡ Ok n
+unfolding bytes_of
+ok_numbered (Ok m) e = ap (λ k. Ok k) (ap bytes_of e)
+ok_numbered (Err Shape) e = cc
+ok_numbered (Err Listing) e = cc
+ok_numbered (Err Moments) e = cc
+ok_numbered (Err Transfers) e = cc
+ok_numbered (Err Full) e = cc
+
+full_numbered : (r : Result ℕ Unwritten) → by_number r ≡ Err 15 → r ≡ Err Full
+unfolding refused_by
+full_numbered (Ok m) e = cc
+full_numbered (Err Shape) e = let z : ◌≡◌ {A = ℕ} 2 16 = ap refused_by e in absurd (omega arith)
+full_numbered (Err Listing) e = let z : ◌≡◌ {A = ℕ} 3 16 = ap refused_by e in absurd (omega arith)
+full_numbered (Err Moments) e = let z : ◌≡◌ {A = ℕ} 4 16 = ap refused_by e in absurd (omega arith)
+full_numbered (Err Transfers) e = let z : ◌≡◌ {A = ℕ} 6 16 = ap refused_by e in absurd (omega arith)
+full_numbered (Err Full) e = refl
 
 -- an answer of bytes
 pub record Accepts (rows : Bool) (fault size room n : ℕ) : Type 0 where
@@ -32,7 +53,7 @@ pub record Accepts (rows : Bool) (fault size room n : ℕ) : Type 0 where
   pub bytes : n ≡ size
   pub fits : size ≤ room
 
-pub accepted : (rows : Bool) (fault size room : ℕ) {n : ℕ} → Bytes n ≡ answered rows fault size room → Accepts rows fault size room n
+pub accepted : (rows : Bool) (fault size room : ℕ) {n : ℕ} → Ok n ≡ answered rows fault size room → Accepts rows fault size room n
 unfolding answered refused_by bytes_of
 accepted false fault size room e = let z : ◌≡◌ {A = ℕ} 0 2 = ap refused_by e in absurd (omega arith)
 accepted true (suc k) size room e = let z : ◌≡◌ {A = ℕ} 0 (suc (suc k)) = ap refused_by e in absurd (omega arith)
@@ -42,19 +63,16 @@ accepted true zero size room {n} e =
     (λ t. let z : ◌≡◌ {A = ℕ} 0 16 = ap refused_by (rw t at e) in absurd (omega arith))
 
 -- rows without a fault
-pub if_room : (rows : Bool) (fault room : ℕ) (text : List ℕ) {r : Written} → r ≡ answered rows fault (length text) room → rows ≡ true → fault ≡ 0
-    → IfRoom text room r
+pub if_room : (rows : Bool) (fault room : ℕ) (text : List ℕ) (r : Result ℕ Unwritten) → by_number r ≡ answered rows fault (length text) room → rows ≡ true
+    → fault ≡ 0 → IfRoom text room r
 unfolding answered
-if_room rows fault room text e h z =
+if_room rows fault room text r e h z =
     split (leb (length text) room)
-    (λ t. rw (e, h, z, t) (room_enough (leb-true (length text) room t)))
-    (λ t. rw (e, h, z, t) (room_short (short t)))
-  where
-    short : leb (length text) room ≡ false → room < length text
-    short t = leb-false (length text) room t
+    (λ t. rw (ok_numbered r (rw (h, z, t) at e)) (room_enough (leb-true (length text) room t)))
+    (λ t. rw (full_numbered r (rw (h, z, t) at e)) (room_short (leb-false (length text) room t)))
 
 -- the text that stands in the buffer
-pub text_held : (n : ℕ) (out text : List ℕ) {out' : List ℕ} → n ≡ length text → length text ≤ length out → out' ≡ held_after (Bytes n) out text
+pub text_held : (n : ℕ) (out text : List ℕ) {out' : List ℕ} → n ≡ length text → length text ≤ length out → out' ≡ held_after {E = Unwritten} (Ok n) out text
     → take n out' ≡ text
 unfolding held_after
 text_held n out text z h e =

@@ -1,5 +1,5 @@
 -- What `read` leaves in what was lent, by its answer; and what the writers did.
-use Rattle.std.specs.Prelude.{ℕ, ◌+◌, ◌*◌, ◌/◌, ◌≤◌, ◌<◌, ◌≡◌, List, length, take, drop}
+use Rattle.std.specs.Prelude.{ℕ, ◌+◌, ◌*◌, ◌/◌, ◌≤◌, ◌<◌, ◌≡◌, List, length, take, drop, Result, Ok, Err}
 use Rattle.model.specs.Limits.{MOST_STOPS, MOST_TRIPS, MOST_STOP_TIMES, MOST_TRANSFERS}
 use Rattle.names.specs.declared.Shelf.{Shelf}
 use Rattle.names.specs.Book.{start_at, end_at, names_in}
@@ -15,8 +15,9 @@ use Rattle.feed.specs.Rows.{time_rows_in, flat_times, transfer_rows_in, flat_tra
 use Rattle.feed.specs.Writing.{write_times, write_transfers}
 use Rattle.gtfs_read.specs.declared.Told.{Told}
 use Rattle.gtfs_read.specs.Reads.{LentFeed, feed_room}
-use Rattle.gtfs_write.specs.declared.Written.{Written}
-use Rattle.gtfs_write.specs.declared.Written.TheVariants.{Bytes, Refused}
+use Rattle.gtfs_write.specs.declared.Unwritten.{Unwritten}
+use Rattle.gtfs_write.specs.declared.Unwritten.TheVariants.{Full}
+use Rattle.gtfs_write.specs.Refusing.{by_number}
 use Rattle.gtfs_write.specs.Written.{held_after}
 use Rattle.gtfs_write_times.specs.WrittenTimes.{written_times}
 use Rattle.gtfs_write_transfers.specs.WrittenTransfers.{written_transfers}
@@ -65,19 +66,19 @@ pub record ReadUntil (P : Feed → Type 0) (a b : List ℕ) (l : LentFeed) (r : 
   pub left : Holds a b l r l' feed
 
 -- ---- what was written: the contracts of the writers
-pub record WroteTimes (w out : List ℕ) (r : Written) (out' : List ℕ) : Type 0 where
-  pub said : r ≡ written_times w (length out)
+pub record WroteTimes (w out : List ℕ) (r : Result ℕ Unwritten) (out' : List ℕ) : Type 0 where
+  pub said : by_number r ≡ written_times w (length out)
   pub held : out' ≡ held_after r out (write_times (time_rows_in w))
 
 -- `stops` is how many stops the stop times have named
-pub record WroteTransfers (w : List ℕ) (stops : ℕ) (out : List ℕ) (r : Written) (out' : List ℕ) : Type 0 where
-  pub said : r ≡ written_transfers w stops (length out)
+pub record WroteTransfers (w : List ℕ) (stops : ℕ) (out : List ℕ) (r : Result ℕ Unwritten) (out' : List ℕ) : Type 0 where
+  pub said : by_number r ≡ written_transfers w stops (length out)
   pub held : out' ≡ held_after r out (write_transfers (transfer_rows_in w))
 
--- a text that is written where the buffer takes it, and refused with 15 where it does not
-pub data IfRoom (text : List ℕ) (room : ℕ) : Written → Type 0 where
-  room_enough : length text ≤ room → IfRoom text room (Bytes (length text))
-  room_short : room < length text → IfRoom text room (Refused 15)
+-- a text that is written where the buffer takes it, and refused as full, with 15, where it does not
+pub data IfRoom (text : List ℕ) (room : ℕ) : Result ℕ Unwritten → Type 0 where
+  room_enough : length text ≤ room → IfRoom text room (Ok (length text))
+  room_short : room < length text → IfRoom text room (Err Full)
 
 -- how many stops and trips the words name
 unfoldable pub stops_in : List ℕ → ℕ

@@ -3,7 +3,7 @@
 use Prim.Native.Nat.{ℕ, zero, suc, ◌≤◌}
 use mathlib.Core.Path.{◌≡◌, refl, sym, ap, ◌∙◌}
 use mathlib.Core.Bool.{◌&&◌}
-use mathlib.Core.Option.{Option, none, some}
+use Rattle.std.specs.Prelude.{Option, None, Some}
 use mathlib.Core.List.{List, [], ◌∷◌, ◌++◌}
 use native.Mathlib.Omega.{arith}
 use lib.Dec.{ltb, leb}
@@ -41,20 +41,20 @@ record TransfersOnly (f : Feed) (g : Got) : Type 0 where
   ends : OfTransfers g.end
   more : length f.stops ≤ length g.feed.stops
 
-taken_longer : (room : Room) (l : TransferLine) (f g : Feed) → take_transfer room l f ≡ some g → length f.stops ≤ length g.stops
+taken_longer : (room : Room) (l : TransferLine) (f g : Feed) → take_transfer room l f ≡ Some g → length f.stops ≤ length g.stops
 unfolding take_transfer
 taken_longer room l f g e =
     let near = named f.stops l.from in
     split (leb (length (named near l.to)) room.stops && ltb (length f.transfers) room.transfers)
     (λ t. let z : length (named near l.to) ≡ length g.stops = ap stops_of (rw t at e) in
     omega (arith, named_longer f.stops l.from, named_longer near l.to))
-    (λ t. let z : ◌≡◌ {A = Option Feed} none (some g) = rw t at e in absurd (no_some z))
+    (λ t. let z : ◌≡◌ {A = Option Feed} None (Some g) = rw t at e in absurd (no_some z))
   where
     stops_of : Option Feed → ℕ
-    stops_of none = 0
-    stops_of (some g) = length g.stops
+    stops_of None = 0
+    stops_of (Some g) = length g.stops
 
-    no_some : ◌≡◌ {A = Option Feed} none (some g) → ⊥
+    no_some : ◌≡◌ {A = Option Feed} None (Some g) → ⊥
     no_some z = let y : ◌≡◌ {A = ℕ} 0 1 = cc in omega arith
 
 from_transfers : (c : TransferColumns) (room : Room) (k : ℕ) (ls : List (List ℕ)) (f : Feed) → TransfersOnly f (transfers_from c room k ls f)
@@ -63,15 +63,15 @@ from_transfers c room k [] f = record { ends = all; more = omega arith }
 from_transfers c room k (l ∷ ls) f = go (λ g. from_transfers c room (suc k) ls g) (transfer_line c l)
   where
     next : ((g : Feed) → TransfersOnly g (transfers_from c room (suc k) ls g)) → (x : TransferLine) (o : Option Feed) → take_transfer room x f ≡ o
-        → TransfersOnly f (elim o [ none ↦ record { feed = f; end = full } | some g ↦ transfers_from c room (suc k) ls g ])
-    next rest x none e = record { ends = no_room; more = omega arith }
-    next rest x (some g) e =
+        → TransfersOnly f (elim o [ None ↦ record { feed = f; end = full } | Some g ↦ transfers_from c room (suc k) ls g ])
+    next rest x None e = record { ends = no_room; more = omega arith }
+    next rest x (Some g) e =
         let r = rest g in record { ends = r.ends; more = omega (arith, r.more, taken_longer room x f g e) }
 
     go : ((g : Feed) → TransfersOnly g (transfers_from c room (suc k) ls g)) → (o : Option TransferLine)
-        → TransfersOnly f (elim o [ none ↦ record { feed = f; end = bad_transfers k } | some x ↦ elim (take_transfer room x f) [ none ↦ record { feed = f; end = full } | some g ↦ transfers_from c room (suc k) ls g ] ])
-    go rest none = record { ends = bad_line k; more = omega arith }
-    go rest (some x) = next rest x (take_transfer room x f) refl
+        → TransfersOnly f (elim o [ None ↦ record { feed = f; end = bad_transfers k } | Some x ↦ elim (take_transfer room x f) [ None ↦ record { feed = f; end = full } | Some g ↦ transfers_from c room (suc k) ls g ] ])
+    go rest None = record { ends = bad_line k; more = omega arith }
+    go rest (Some x) = next rest x (take_transfer room x f) refl
 
 transfers_only : (room : Room) (ls : List (List ℕ)) (f : Feed) → TransfersOnly f (read_transfers room ls f)
 unfolding read_transfers transfers_under
@@ -79,8 +79,8 @@ transfers_only room [] f = record { ends = bad_line 1; more = omega arith }
 transfers_only room (h ∷ ls) f = go (if_there (fields h) transfer_columns)
   where
     go : (o : Option TransferColumns) → TransfersOnly f (transfers_under room o ls f)
-    go none = record { ends = bad_line 1; more = omega arith }
-    go (some c) = from_transfers c room 2 ls f
+    go None = record { ends = bad_line 1; more = omega arith }
+    go (Some c) = from_transfers c room 2 ls f
 
 pub of_transfers : (room : Room) (ls : List (List ℕ)) (f : Feed) → OfTransfers (read_transfers room ls f).end
 of_transfers room ls f = (transfers_only room ls f).ends
@@ -141,9 +141,9 @@ from_only c room k (l ∷ ls) f q = go (λ g r. from_only c room (suc k) ls g r)
     next rest x out_of_room e = record { ends = no_room; same = refl }
 
     go : ((g : Feed) (r : ℕ) → TimesOnly g (times_from c room (suc k) ls g r)) → (o : Option TimeLine)
-        → TimesOnly f (elim o [ none ↦ record { feed = f; end = bad_times k } | some x ↦ elim (take_time room x f q) [ kept g ↦ times_from c room (suc k) ls g x.sequence | bad ↦ record { feed = f; end = bad_times k } | out_of_room ↦ record { feed = f; end = full } ] ])
-    go rest none = record { ends = bad_line k; same = refl }
-    go rest (some x) = next rest x (take_time room x f q) refl
+        → TimesOnly f (elim o [ None ↦ record { feed = f; end = bad_times k } | Some x ↦ elim (take_time room x f q) [ kept g ↦ times_from c room (suc k) ls g x.sequence | bad ↦ record { feed = f; end = bad_times k } | out_of_room ↦ record { feed = f; end = full } ] ])
+    go rest None = record { ends = bad_line k; same = refl }
+    go rest (Some x) = next rest x (take_time room x f q) refl
 
 times_only : (room : Room) (ls : List (List ℕ)) → TimesOnly empty_feed (read_times room ls)
 unfolding read_times times_under
@@ -151,8 +151,8 @@ times_only room [] = record { ends = bad_line 1; same = refl }
 times_only room (h ∷ ls) = go (if_there (fields h) times_columns)
   where
     go : (o : Option TimesColumns) → TimesOnly empty_feed (times_under room o ls)
-    go none = record { ends = bad_line 1; same = refl }
-    go (some c) = from_only c room 2 ls empty_feed 0
+    go None = record { ends = bad_line 1; same = refl }
+    go (Some c) = from_only c room 2 ls empty_feed 0
 
 pub of_times : (room : Room) (ls : List (List ℕ)) → OfTimes (read_times room ls).end
 of_times room ls = (times_only room ls).ends

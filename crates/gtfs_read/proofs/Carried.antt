@@ -3,7 +3,7 @@
 use Prim.Native.Nat.{ℕ, suc}
 use mathlib.Core.Path.{◌≡◌, refl, sym, ap, ◌∙◌}
 use mathlib.Core.Bool.{◌&&◌}
-use mathlib.Core.Option.{Option, none, some}
+use Rattle.std.specs.Prelude.{Option, None, Some}
 use mathlib.Core.List.{List, [], ◌∷◌}
 use lib.Dec.{ltb, leb}
 use lib.ListN.{length}
@@ -31,8 +31,8 @@ carried trips times g =
 
 module _ (trips : List (List ℕ)) (times : List TimeRow) where
   maybe : Option Feed → Option Feed
-  maybe none = none
-  maybe (some g) = some (bearing trips times g)
+  maybe None = None
+  maybe (Some g) = Some (bearing trips times g)
 
   take_carried : (room : Room) (l : TransferLine) (f : Feed) → take_transfer room l (bearing trips times f) ≡ maybe (take_transfer room l f)
   unfolding take_transfer maybe
@@ -48,12 +48,12 @@ module _ (trips : List (List ℕ)) (times : List TimeRow) where
   from_carried c room k (l ∷ ls) f = line (λ g. from_carried c room (suc k) ls g) (transfer_line c l) refl
     where
       row : ((g : Feed) → transfers_from c room (suc k) ls (bearing trips times g) ≡ carried trips times (transfers_from c room (suc k) ls g))
-          → (x : TransferLine) → transfer_line c l ≡ some x → (o : Option Feed) → take_transfer room x f ≡ o
+          → (x : TransferLine) → transfer_line c l ≡ Some x → (o : Option Feed) → take_transfer room x f ≡ o
           → transfers_from c room k (l ∷ ls) (bearing trips times f) ≡ carried trips times (transfers_from c room k (l ∷ ls) f)
-      row more x e none q =
+      row more x e None q =
           transfer_full c room k l ls (bearing trips times f) e (take_carried room x f ∙ ap maybe q)
           ∙ ap (carried trips times) (sym (transfer_full c room k l ls f e q))
-      row more x e (some g) q =
+      row more x e (Some g) q =
           transfer_goes c room k l ls (bearing trips times f) e (take_carried room x f ∙ ap maybe q)
           ∙ more g
           ∙ ap (carried trips times) (sym (transfer_goes c room k l ls f e q))
@@ -61,15 +61,15 @@ module _ (trips : List (List ℕ)) (times : List TimeRow) where
       line : ((g : Feed) → transfers_from c room (suc k) ls (bearing trips times g) ≡ carried trips times (transfers_from c room (suc k) ls g))
           → (o : Option TransferLine) → transfer_line c l ≡ o
           → transfers_from c room k (l ∷ ls) (bearing trips times f) ≡ carried trips times (transfers_from c room k (l ∷ ls) f)
-      line more none e =
+      line more None e =
           transfer_none c room k l ls (bearing trips times f) e ∙ ap (carried trips times) (sym (transfer_none c room k l ls f e))
-      line more (some x) e = row more x e (take_transfer room x f) refl
+      line more (Some x) e = row more x e (take_transfer room x f) refl
 
   under_carried : (room : Room) (o : Option TransferColumns) (ls : List (List ℕ)) (f : Feed)
       → transfers_under room o ls (bearing trips times f) ≡ carried trips times (transfers_under room o ls f)
   unfolding transfers_under
-  under_carried room none ls f = refl
-  under_carried room (some c) ls f = from_carried c room 2 ls f
+  under_carried room None ls f = refl
+  under_carried room (Some c) ls f = from_carried c room 2 ls f
 
   all_carried : (room : Room) (ls : List (List ℕ)) (f : Feed)
       → read_transfers room ls (bearing trips times f) ≡ carried trips times (read_transfers room ls f)

@@ -1,9 +1,9 @@
 -- The two files together: what each of them tells and leaves is what both do.
 -- Assumes nothing.
 use Prim.Native.Nat.{ℕ, ◌≤◌}
-use mathlib.Core.Path.{◌≡◌, refl, sym, ap, subst, ◌∙◌}
+use mathlib.Core.Path.{◌≡◌, refl, ap, subst, ◌∙◌}
+use mathlib.Core.Bool.{true, false}
 use mathlib.Core.List.{List}
-use native.Mathlib.Omega.{arith}
 use lib.ListN.{length}
 use Rattle.base.specs.Put.{with_bytes}
 use Rattle.csv_text.specs.Lines.{lines}
@@ -11,8 +11,8 @@ use Rattle.names.specs.Book.{names_in}
 use Rattle.names.specs.Booked.{Booked}
 use Rattle.names.proofs.Booking.{booked_turn}
 use Rattle.feed.specs.declared.Room.{Room}
-use Rattle.feed.specs.declared.Ending.{Ending}
-use Rattle.feed.specs.declared.Ending.TheVariants.{Done, Bad, Full}
+use Rattle.std.specs.Prelude.{is_err}
+use Rattle.gtfs_read.specs.declared.File.TheVariants.{StopTimes, Transfers}
 use Rattle.feed.specs.Feed.{End, done, bad_times, bad_transfers, full}
 use Rattle.feed.specs.Times.{read_times}
 use Rattle.feed.specs.Reading.{without_mark, transfers_after, read_feed}
@@ -24,80 +24,58 @@ use Rattle.gtfs_times.specs.Told.{times_told, stops_left, trips_left, TimesLeft}
 use Rattle.gtfs_transfers.specs.declared.TransfersTold.{TransfersTold}
 use Rattle.gtfs_transfers.specs.Told.{transfers_told, stops_only, first_shelf, transfers_read, paths_left, TransfersLeft, PathsLent}
 use Rattle.gtfs_read.specs.declared.Told.{Told}
-use Rattle.gtfs_read.specs.Reads.{lent_feed, number_for, line_for, file_for, told_by, split_of, stops_shelf, trips_shelf, Left}
-use Rattle.gtfs_read.specs.Parts.{first_told, told_both, told_under, told_of_both, FilesLent}
+use Rattle.gtfs_read.specs.Reads.{lent_feed, ended_as, told_by, split_of, stops_shelf, trips_shelf, Left}
+use Rattle.gtfs_read.specs.Parts.{ended_in, first_told, told_both, FilesLent}
 use Rattle.gtfs_read.proofs.Carried.{carried, transfers_carried}
 use Rattle.gtfs_read.proofs.Beside.{OfTimes, OfTransfers, of_times, of_transfers, stops_stay, no_transfers}
 
-told_is : (first : TimesTold) (second : TransfersTold) (z : End) → OfTransfers z
-    → told_under first second (ending_of z) ≡ told_both first second (number_for z) (line_for z) (file_for z)
-unfolding told_under ending_of number_for line_for file_for
-told_is first second done OfTransfers.all = refl
-told_is first second (bad_times _) x'' = elim x'' [ ]
-told_is first second (bad_transfers k) (OfTransfers.bad_line j) = refl
-told_is first second full OfTransfers.no_room = refl
+ends_second : (z : End) → OfTransfers z → ended_in Transfers (ending_of z) ≡ ended_as z
+unfolding ended_in ending_of ended_as
+ends_second done OfTransfers.all = refl
+ends_second (bad_times _) x'' = elim x'' [ ]
+ends_second (bad_transfers k) (OfTransfers.bad_line j) = refl
+ends_second full OfTransfers.no_room = refl
+
+ends_first : (z : End) → OfTimes z → ended_in StopTimes (ending_of z) ≡ ended_as z
+unfolding ended_in ending_of ended_as
+ends_first done OfTimes.all = refl
+ends_first (bad_times k) (OfTimes.bad_line j) = refl
+ends_first (bad_transfers _) x'' = elim x'' [ ]
+ends_first full OfTimes.no_room = refl
 
 module _ (room : Room) (a b : List ℕ) {first : TimesTold} (f : first ≡ times_told (read_times room (lines (without_mark a)))) where
   -- ---- the first file is refused
-  ended : {e : Ending} → first.ending ≡ e → ending_of (read_times room (lines (without_mark a))).end ≡ e
+  first_ended : first.ending ≡ ending_of (read_times room (lines (without_mark a))).end
   unfolding times_told
-  ended q = sym (ap (λ (t : TimesTold). t.ending) f) ∙ q
-
-  is_bad : {k : ℕ} → first.ending ≡ Bad k → (read_times room (lines (without_mark a))).end ≡ bad_times k
-  unfolding ending_of
-  is_bad {k} q = go (read_times room (lines (without_mark a))).end (of_times room (lines (without_mark a))) (ended q)
-    where
-      go : (z : End) → OfTimes z → ending_of z ≡ Bad k → z ≡ bad_times k
-      go done OfTimes.all w = let n : ◌≡◌ {A = ℕ} 0 1 = cc in absurd (omega arith)
-      go (bad_transfers _) x3 w = elim x3 [ ]
-      go (bad_times j) (OfTimes.bad_line j') w = let n : j ≡ k = cc in ap bad_times n
-      go full OfTimes.no_room w = let n : ◌≡◌ {A = ℕ} 0 1 = cc in absurd (omega arith)
-
-  is_full : first.ending ≡ Full → (read_times room (lines (without_mark a))).end ≡ full
-  unfolding ending_of
-  is_full q = go (read_times room (lines (without_mark a))).end (ended q)
-    where
-      go : (z : End) → ending_of z ≡ Full → z ≡ full
-      go done w = let n : ◌≡◌ {A = ℕ} 0 1 = cc in absurd (omega arith)
-      go (bad_times j) w = let n : ◌≡◌ {A = ℕ} 0 1 = cc in absurd (omega arith)
-      go (bad_transfers j) w = let n : ◌≡◌ {A = ℕ} 0 1 = cc in absurd (omega arith)
-      go full w = refl
-
-  is_done : first.ending ≡ Done → (read_times room (lines (without_mark a))).end ≡ done
-  unfolding ending_of
-  is_done q = go (read_times room (lines (without_mark a))).end (ended q)
-    where
-      go : (z : End) → ending_of z ≡ Done → z ≡ done
-      go done w = refl
-      go (bad_times j) w = let n : ◌≡◌ {A = ℕ} 0 1 = cc in absurd (omega arith)
-      go (bad_transfers j) w = let n : ◌≡◌ {A = ℕ} 0 1 = cc in absurd (omega arith)
-      go full w = let n : ◌≡◌ {A = ℕ} 0 1 = cc in absurd (omega arith)
+  first_ended = ap (λ (t : TimesTold). t.ending) f
 
   -- then the second is not read
-  stays_bad : {k : ℕ} → first.ending ≡ Bad k → read_feed room a b ≡ read_times room (lines (without_mark a))
-  unfolding read_feed transfers_after
-  stays_bad q = rw (is_bad q)
+  stays : is_err first.ending ≡ true → read_feed room a b ≡ read_times room (lines (without_mark a))
+  unfolding read_feed transfers_after ending_of
+  stays h = go (read_times room (lines (without_mark a))).end refl
+    where
+      go : (z : End) → (read_times room (lines (without_mark a))).end ≡ z → read_feed room a b ≡ read_times room (lines (without_mark a))
+      go done q = let n : false ≡ true = rw (first_ended, q) at h in cc
+      go (bad_times k) q = rw q
+      go (bad_transfers k) q = rw q
+      go full q = rw q
 
-  stays_full : first.ending ≡ Full → read_feed room a b ≡ read_times room (lines (without_mark a))
-  unfolding read_feed transfers_after
-  stays_full q = rw (is_full q)
+  is_done : is_err first.ending ≡ false → (read_times room (lines (without_mark a))).end ≡ done
+  unfolding ending_of
+  is_done h = go (read_times room (lines (without_mark a))).end refl
+    where
+      go : (z : End) → (read_times room (lines (without_mark a))).end ≡ z → z ≡ done
+      go done q = refl
+      go (bad_times k) q = let n : true ≡ false = rw (first_ended, q) at h in cc
+      go (bad_transfers k) q = let n : true ≡ false = rw (first_ended, q) at h in cc
+      go full q = let n : true ≡ false = rw (first_ended, q) at h in cc
 
   -- what the first file tells
-  refused : (z : End) → read_feed room a b ≡ read_times room (lines (without_mark a)) → (read_times room (lines (without_mark a))).end ≡ z
-      → first_told first (number_for z) (line_for z) (file_for z) ≡ told_by (split_of room a) (read_feed room a b)
+  pub first_says : is_err first.ending ≡ true → {r : Told} → r ≡ first_told first → r ≡ told_by (split_of room a) (read_feed room a b)
   unfolding told_by split_of times_told
-  refused z h q =
+  first_says h o =
       let n : length (read_times room (lines (without_mark a))).feed.transfers ≡ 0 = ap length (no_transfers room (lines (without_mark a))) in
-      rw (h, f, ← q, n)
-
-  pub bad_told : {k : ℕ} → first.ending ≡ Bad k → {r : Told} → r ≡ first_told first 14 k 1
-      → r ≡ told_by (split_of room a) (read_feed room a b)
-  unfolding number_for line_for file_for
-  bad_told {k} q o = o ∙ refused (bad_times k) (stays_bad q) (is_bad q)
-
-  pub full_told : first.ending ≡ Full → {r : Told} → r ≡ first_told first 15 0 0 → r ≡ told_by (split_of room a) (read_feed room a b)
-  unfolding number_for line_for file_for
-  full_told q o = o ∙ refused full (stays_full q) (is_full q)
+      o ∙ rw (stays h, f, n, ends_first (read_times room (lines (without_mark a))).end (of_times room (lines (without_mark a))))
 
   module _ {x s t x' s' t' : List ℕ} (l : TimesLeft room a (read_times room (lines (without_mark a))) x s t x' s' t') where
     -- and leaves
@@ -113,12 +91,9 @@ module _ (room : Room) (a b : List ℕ) {first : TimesTold} (f : first ≡ times
           trips_left_lem = l.trips_left_lem;
         })
 
-    pub bad_left : (y : List ℕ) {k : ℕ} → first.ending ≡ Bad k
+    pub first_leaves : (y : List ℕ) → is_err first.ending ≡ true
         → Left room a b (read_feed room a b) (lent_feed x y s t) (lent_feed x' y s' t')
-    bad_left y q = first_left y (stays_bad q)
-
-    pub full_left : (y : List ℕ) → first.ending ≡ Full → Left room a b (read_feed room a b) (lent_feed x y s t) (lent_feed x' y s' t')
-    full_left y q = first_left y (stays_full q)
+    first_leaves y h = first_left y (stays h)
 
     -- ---- the second file
     counted : first.stops ≡ length (read_times room (lines (without_mark a))).feed.stops
@@ -129,7 +104,7 @@ module _ (room : Room) (a b : List ℕ) {first : TimesTold} (f : first ≡ times
     unfolding stops_left
     paths_lent h = rw counted (record { book = l.stops_left_lem.book; short = h.second_short; rows = h.paths })
 
-    module _ (q : first.ending ≡ Done) {second : TransfersTold} (e : second ≡ transfers_told (transfers_read room first.stops a b s')) where
+    module _ (q : is_err first.ending ≡ false) {second : TransfersTold} (e : second ≡ transfers_told (transfers_read room first.stops a b s')) where
       both : read_feed room a b
           ≡ carried (read_times room (lines (without_mark a))).feed.trips (read_times room (lines (without_mark a))).feed.times
           (transfers_read room first.stops a b s')
@@ -142,12 +117,11 @@ module _ (room : Room) (a b : List ℕ) {first : TimesTold} (f : first ≡ times
       unfolding transfers_read
       second_end = of_transfers room (lines (without_mark b)) (stops_only (names_in a a (first_shelf room first.stops) s'))
 
-      pub both_told : {r : Told} → r ≡ told_of_both first second → r ≡ told_by (split_of room a) (read_feed room a b)
-      unfolding told_of_both told_by split_of times_told transfers_told
-      both_told o =
+      pub both_say : {r : Told} → r ≡ told_both first second → r ≡ told_by (split_of room a) (read_feed room a b)
+      unfolding told_by split_of times_told transfers_told
+      both_say o =
           let h = transfers_read room first.stops a b s' in
-          let i : second.ending ≡ ending_of h.end = ap (λ (t : TransfersTold). t.ending) e in
-          o ∙ ap (told_under first second) i ∙ told_is first second h.end second_end ∙ rw (both, e, f)
+          o ∙ rw (both, e, ends_second h.end second_end, f)
 
       more : length (read_times room (lines (without_mark a))).feed.stops ≤ length (transfers_read room first.stops a b s').feed.stops
       unfolding transfers_read stops_left

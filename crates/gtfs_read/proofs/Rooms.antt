@@ -1,25 +1,17 @@
 -- The room of what is lent.
 -- Assumes nothing.
-use Prim.Native.Nat.{ℕ, ◌*◌, ◌/◌, ◌≤◌, ◌<◌}
+use Prim.Native.Nat.{ℕ, ◌*◌, ◌/◌, ◌≤◌}
 use mathlib.Core.Path.{◌≡◌}
 use mathlib.Core.List.{List}
 use native.Mathlib.Omega.{arith}
 use lib.Dec.{leb}
 use lib.ListN.{length}
-use borrow.Author.Tests.{le-leb, lt-leb, leb-true, leb-false}
+use borrow.Author.Tests.{leb-true, leb-false}
 use Rattle.base.proofs.Choice.{split}
 use Rattle.model.specs.Limits.{MOST_STOPS, MOST_TRIPS, MOST_STOP_TIMES, MOST_TRANSFERS}
 use Rattle.feed.specs.declared.Room.{Room}
 use Rattle.gtfs_read.specs.Reads.{lent_feed, rows_of, feed_room}
 use Rattle.gtfs_read.specs.Parts.{FilesLent}
-
-pub rows_few : (w : List ℕ) (most : ℕ) → length w / 4 ≤ most → length w / 4 ≡ rows_of w most
-unfolding rows_of
-rows_few w most h = rw (le-leb (length w / 4) most h)
-
-pub rows_many : (w : List ℕ) (most : ℕ) → most < length w / 4 → most ≡ rows_of w most
-unfolding rows_of
-rows_many w most h = rw (lt-leb (length w / 4) most h)
 
 pub rows_inside : (w : List ℕ) (most : ℕ) → 4 * rows_of w most ≤ length w
 unfolding rows_of
@@ -34,11 +26,6 @@ rows_most w most =
     split (leb (length w / 4) most)
     (λ e. rw e (leb-true (length w / 4) most e))
     (λ e. rw e (omega arith))
-
-pub room_is : (x y s t : List ℕ) {m n i j : ℕ} → m ≡ rows_of s MOST_STOPS → n ≡ rows_of t MOST_TRIPS → i ≡ rows_of x MOST_STOP_TIMES
-    → j ≡ rows_of y MOST_TRANSFERS → record { stops = m; trips = n; times = i; transfers = j } ≡ feed_room (lent_feed x y s t)
-unfolding feed_room
-room_is x y s t p q e f = rw (p, q, e, f)
 
 pub files_lent : (room : Room) (a b x y s t : List ℕ) → room ≡ feed_room (lent_feed x y s t) → length a ≤ 4_294_967_295 → length b ≤ 4_294_967_295
     → FilesLent room a b x y s t

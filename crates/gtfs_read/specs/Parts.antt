@@ -1,18 +1,26 @@
 -- The answer made of those of the two files, and what they must be lent.
-use Rattle.std.specs.Prelude.{ℕ, ◌*◌, ◌≤◌, List, length}
+use Rattle.std.specs.Prelude.{ℕ, ◌*◌, ◌≤◌, List, length, Result, Ok, Err, ⊤}
 use Rattle.feed.specs.declared.Room.{Room}
-use Rattle.feed.specs.declared.Ending.{Ending}
-use Rattle.feed.specs.declared.Ending.TheVariants.{Done, Bad, Full}
+use Rattle.feed.specs.declared.Unread.{Unread}
+use Rattle.feed.specs.declared.Unread.TheVariants.{Bad as BadLine, Full as Filled}
 use Rattle.gtfs_times.specs.declared.TimesTold.{TimesTold}
 use Rattle.gtfs_transfers.specs.declared.TransfersTold.{TransfersTold}
 use Rattle.gtfs_read.specs.declared.Told.{Told}
+use Rattle.gtfs_read.specs.declared.File.{File}
+use Rattle.gtfs_read.specs.declared.File.TheVariants.{StopTimes, Transfers}
+use Rattle.gtfs_read.specs.declared.Unfinished.{Unfinished}
+use Rattle.gtfs_read.specs.declared.Unfinished.TheVariants.{Bad, Full}
 
-abbrev pub first_told : TimesTold → ℕ → ℕ → ℕ → Told
-first_told a number line file =
+-- a bad line is one of the file's
+unfoldable pub ended_in : File → Result ⊤ Unread → Result ⊤ Unfinished
+ended_in file (Ok x) = Ok x
+ended_in file (Err (BadLine k)) = Err (Bad file k)
+ended_in file (Err Filled) = Err Full
+
+abbrev pub first_told : TimesTold → Told
+first_told a =
     record {
-      number = number;
-      line = line;
-      file = file;
+      ending = ended_in StopTimes a.ending;
       stops = a.stops;
       split = a.stops;
       trips = a.trips;
@@ -20,26 +28,16 @@ first_told a number line file =
       transfers = 0;
     }
 
-abbrev pub told_both : TimesTold → TransfersTold → ℕ → ℕ → ℕ → Told
-told_both a b number line file =
+abbrev pub told_both : TimesTold → TransfersTold → Told
+told_both a b =
     record {
-      number = number;
-      line = line;
-      file = file;
+      ending = ended_in Transfers b.ending;
       stops = b.stops;
       split = a.stops;
       trips = a.trips;
       times = a.times;
       transfers = b.transfers;
     }
-
-unfoldable pub told_under : TimesTold → TransfersTold → Ending → Told
-told_under a b Done = told_both a b 0 0 0
-told_under a b (Bad line) = told_both a b 14 line 2
-told_under a b Full = told_both a b 15 0 0
-
-unfoldable pub told_of_both : TimesTold → TransfersTold → Told
-told_of_both a b = told_under a b b.ending
 
 -- tables and books have their room, and the files' places fit 32 bits
 pub record FilesLent (room : Room) (a b times transfers stops trips : List ℕ) : Type 0 where

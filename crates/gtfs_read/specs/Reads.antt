@@ -1,5 +1,5 @@
 -- What `read` answers and leaves: "every table, query and buffer is answered".
-use Rattle.std.specs.Prelude.{ℕ, ◌/◌, ◌≡◌, Bool, true, false, cond, ◌||◌, List, leb, ltb, length}
+use Rattle.std.specs.Prelude.{ℕ, ◌/◌, ◌≡◌, Bool, true, false, cond, ◌||◌, List, leb, ltb, length, Result, Ok, Err, ⊤}
 use Rattle.base.specs.Put.{with_bytes}
 use Rattle.csv_text.specs.Lines.{lines}
 use Rattle.names.specs.declared.Shelf.{Shelf}
@@ -11,6 +11,10 @@ use Rattle.feed.specs.Times.{read_times}
 use Rattle.feed.specs.Reading.{without_mark, read_feed}
 use Rattle.feed.specs.Rows.{flat_times, flat_transfers}
 use Rattle.gtfs_read.specs.declared.Told.{Told}
+use Rattle.gtfs_read.specs.declared.File.{File}
+use Rattle.gtfs_read.specs.declared.File.TheVariants.{StopTimes, Transfers}
+use Rattle.gtfs_read.specs.declared.Unfinished.{Unfinished}
+use Rattle.gtfs_read.specs.declared.Unfinished.TheVariants.{TooLong, Bad, Full}
 
 -- what is lent: two tables, and two books in which the ids are found again
 pub record LentFeed : Type 0 where
@@ -59,13 +63,41 @@ file_for (bad_times k) = 1
 file_for (bad_transfers k) = 2
 file_for full = 0
 
+-- the same as the code answers with it
+unfoldable pub ended_as : End → Result ⊤ Unfinished
+ended_as done = Ok tt
+ended_as (bad_times k) = Err (Bad StopTimes k)
+ended_as (bad_transfers k) = Err (Bad Transfers k)
+ended_as full = Err Full
+
+-- the number of an ending, 1 where a file is too long; and for 14 the line, and the file: 1 is stop_times.txt, 2 is transfers.txt
+abbrev pub ending_number : Result ⊤ Unfinished → ℕ
+ending_number (Ok x) = 0
+ending_number (Err TooLong) = 1
+ending_number (Err (Bad file k)) = 14
+ending_number (Err Full) = 15
+
+abbrev pub ending_line : Result ⊤ Unfinished → ℕ
+ending_line (Ok x) = 0
+ending_line (Err TooLong) = 0
+ending_line (Err (Bad file k)) = k
+ending_line (Err Full) = 0
+
+abbrev pub file_number : File → ℕ
+file_number StopTimes = 1
+file_number Transfers = 2
+
+abbrev pub ending_file : Result ⊤ Unfinished → ℕ
+ending_file (Ok x) = 0
+ending_file (Err TooLong) = 0
+ending_file (Err (Bad file k)) = file_number file
+ending_file (Err Full) = 0
+
 -- `split` stops are named in the first file
 unfoldable pub told_by : ℕ → Got → Told
 told_by split g =
     record {
-      number = number_for g.end;
-      line = line_for g.end;
-      file = file_for g.end;
+      ending = ended_as g.end;
       stops = length g.feed.stops;
       split = split;
       trips = length g.feed.trips;
@@ -79,7 +111,7 @@ split_of room a = length (read_times room (lines (without_mark a))).feed.stops
 
 -- nothing is read of a file that is too long: number 1
 unfoldable pub refused_long : Told
-refused_long = record { number = 1; line = 0; file = 0; stops = 0; split = 0; trips = 0; times = 0; transfers = 0 }
+refused_long = record { ending = Err TooLong; stops = 0; split = 0; trips = 0; times = 0; transfers = 0 }
 
 unfoldable pub told_feed : Room → List ℕ → List ℕ → Told
 told_feed room a b = cond (is_too_long a b) refused_long (told_by (split_of room a) (read_feed room a b))

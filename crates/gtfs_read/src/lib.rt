@@ -1,23 +1,62 @@
 // Reads stop_times.txt and transfers.txt into lent tables: every pair of files and every room is answered.
 #![tactic(auto)]
 
-ghost use Rattle.std.specs.Prelude.{◌≡◌, ◌≤◌};
-ghost use Rattle.gtfs_read.specs.Reads.{lent_feed, rows_of, feed_room, refused_long, told_by, split_of, Left, Reads};
-ghost use Rattle.gtfs_read.specs.Parts.{first_told, told_both, told_of_both, FilesLent};
+ghost use Rattle.std.specs.Prelude.{◌≡◌, ◌≤◌, Err};
+ghost use Rattle.gtfs_read.specs.Reads.{file_number, ending_number, lent_feed, rows_of, feed_room};
+ghost use Rattle.gtfs_read.specs.Reads.{refused_long, told_by, split_of, Left, Reads};
+ghost use Rattle.gtfs_read.specs.Parts.{ended_in, first_told, told_both, FilesLent};
 ghost use Rattle.feed.specs.Reading.{read_feed};
 
-use feed::{Ending, Room};
+use feed::{Room, Unread};
 use gtfs_times::TimesTold;
 use gtfs_transfers::TransfersTold;
 use repository::limits;
 
-// The answer: the number, for 14 the line and the file (1 stop_times.txt, 2 transfers.txt), and how much was taken. Stops below `split`
-// are named in the first file.
+// Which of the two files.
+#[derive(Clone, Copy, Debug, PartialEq, Eq)]
+pub enum File {
+    StopTimes,
+    Transfers,
+}
+
+// Why the reading ends before both files do: a file is too long for its places to fit 32 bits, "14 with its line for a bad line, 15
+// for a table that is full".
+#[derive(Clone, Copy, Debug, PartialEq, Eq)]
+pub enum Unfinished {
+    TooLong,
+    Bad { file: File, line: u32 },
+    Full,
+}
+
+// The number by which C and the documents know a file.
+impl From<File> for u32 {
+    ghost from_gives = { λ file number. number ≡ file_number file };
+
+    fn from(file: File) -> u32 {
+        match file {
+            File::StopTimes => 1,
+            File::Transfers => 2,
+        }
+    }
+}
+
+// And why a reading ends.
+impl From<Unfinished> for u32 {
+    ghost from_gives = { λ unfinished number. number ≡ ending_number (Err unfinished) };
+
+    fn from(unfinished: Unfinished) -> u32 {
+        match unfinished {
+            Unfinished::TooLong => 1,
+            Unfinished::Bad { .. } => 14,
+            Unfinished::Full => 15,
+        }
+    }
+}
+
+// The answer: how the reading ended, and how much was taken. Stops below `split` are named in the first file.
 #[derive(Clone, Copy)]
 pub struct Told {
-    pub number: u32,
-    pub line: u32,
-    pub file: u32,
+    pub ending: Result<(), Unfinished>,
     pub stops: u32,
     pub split: u32,
     pub trips: u32,
@@ -26,18 +65,16 @@ pub struct Told {
 }
 
 // How many rows of four words there are, up to a limit.
+#[tactic(auto, unfolding(crate::specs::Reads::rows_of))]
 fn rows_of(words: &[u32], most: usize) -> u32
     requires { most ≤ 4294967295 }
     ensures { result ≡ rows_of words.now most }
 {
-    let n = words.len() / 4;
-    if n <= most {
-        return n as u32;
-    }
-    most as u32
+    (words.len() / 4).min(most) as u32
 }
 
 // The room of what is lent.
+#[tactic(auto, unfolding(crate::specs::Reads::feed_room))]
 fn room_of(times: &[u32], transfers: &[u32], stops: &[u32], trips: &[u32]) -> Room
     ensures { result ≡ feed_room (lent_feed times.now transfers.now stops.now trips.now) }
 {
@@ -49,14 +86,13 @@ fn room_of(times: &[u32], transfers: &[u32], stops: &[u32], trips: &[u32]) -> Ro
     }
 }
 
-// A file whose places do not fit 32 bits: 1, and nothing is read.
+// A file whose places do not fit 32 bits: nothing is read.
+#[tactic(auto, unfolding(crate::specs::Reads::refused_long))]
 fn too_long() -> Told
     ensures { result ≡ refused_long }
 {
     Told {
-        number: 1,
-        line: 0,
-        file: 0,
+        ending: Err(Unfinished::TooLong),
         stops: 0,
         split: 0,
         trips: 0,
@@ -65,14 +101,24 @@ fn too_long() -> Told
     }
 }
 
-// The answer where the first file is refused.
-fn first_told(first: TimesTold, number: u32, line: u32, file: u32) -> Told
-    ensures { result ≡ first_told first number line file }
+// How the reading ends, by how that of one file does.
+#[tactic(auto, unfolding(crate::specs::Parts::ended_in))]
+fn ended_in(file: File, ending: Result<(), Unread>) -> Result<(), Unfinished>
+    ensures { result ≡ ended_in file ending }
+{
+    match ending {
+        Ok(()) => Ok(()),
+        Err(Unread::Bad(line)) => Err(Unfinished::Bad { file, line }),
+        Err(Unread::Full) => Err(Unfinished::Full),
+    }
+}
+
+// The answer where the first file is not read to its end.
+fn first_told(first: TimesTold) -> Told
+    ensures { result ≡ first_told first }
 {
     Told {
-        number: number,
-        line: line,
-        file: file,
+        ending: ended_in(File::StopTimes, first.ending),
         stops: first.stops,
         split: first.stops,
         trips: first.trips,
@@ -82,30 +128,16 @@ fn first_told(first: TimesTold, number: u32, line: u32, file: u32) -> Told
 }
 
 // The answer of both files.
-fn both_told(first: TimesTold, second: TransfersTold, number: u32, line: u32, file: u32) -> Told
-    ensures { result ≡ told_both first second number line file }
+fn both_told(first: TimesTold, second: TransfersTold) -> Told
+    ensures { result ≡ told_both first second }
 {
     Told {
-        number: number,
-        line: line,
-        file: file,
+        ending: ended_in(File::Transfers, second.ending),
         stops: second.stops,
         split: first.stops, // stops that only transfers.txt names come behind
         trips: first.trips,
         times: first.times,
         transfers: second.transfers,
-    }
-}
-
-// The answer by how the second file ends.
-fn told_by(first: TimesTold, second: TransfersTold) -> Told
-    ensures { result ≡ told_of_both first second }
-{
-    let ending = second.ending;
-    match ending {
-        Ending::Done => return both_told(first, second, 0, 0, 0),
-        Ending::Bad(line) => return both_told(first, second, 14, line, 2),
-        Ending::Full => return both_told(first, second, 15, 0, 0),
     }
 }
 
@@ -128,26 +160,24 @@ fn read_files(
         (lent_feed times.new paths.new stops.new trips.new) }
 {
     let first = gtfs_times::read_times(stop_times, times, stops, trips, room);
-    let ending = first.ending;
-    match ending {
-        Ending::Bad(line) => return first_told(first, 14, line, 1),
-        Ending::Full => return first_told(first, 15, 0, 0),
-        Ending::Done => {
-            let second = gtfs_transfers::read_transfers(
-                stop_times,
-                transfers,
-                paths,
-                stops,
-                room,
-                first.stops,
-            );
-            return told_by(first, second);
-        }
+    if first.ending.is_err() {
+        return first_told(first);
     }
+    let second = gtfs_transfers::read_transfers(
+        stop_times,
+        transfers,
+        paths,
+        stops,
+        room,
+        first.stops,
+    );
+    both_told(first, second)
 }
 
-// Reads both files. Answers 0, or 1 for a file above 4,294,967,295 bytes, 14 for a bad line, 15 for a table that is full; what is lent
-// holds what the lines before say.
+// A file's places fit 32 bits.
+const MOST_BYTES: usize = 4_294_967_295;
+
+// Reads both files, where neither is above 4,294,967,295 bytes; what is lent holds what the lines say that were taken.
 pub fn read(
     stop_times: &[u8],
     transfers: &[u8],
@@ -160,10 +190,7 @@ pub fn read(
         (lent_feed times.old paths.old stops.old trips.old) result
         (lent_feed times.new paths.new stops.new trips.new) }
 {
-    if 4294967295 < stop_times.len() {
-        return too_long();
-    }
-    if 4294967295 < transfers.len() {
+    if stop_times.len() > MOST_BYTES || transfers.len() > MOST_BYTES {
         return too_long();
     }
     let room = room_of(times, paths, stops, trips);

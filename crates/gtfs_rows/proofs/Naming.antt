@@ -13,8 +13,8 @@ use Rattle.csv_text.specs.Texts.{same_text}
 use Rattle.columns.specs.declared.Span.{Span}
 use Rattle.columns.specs.Picks.{text_at, is_named}
 use Rattle.names.specs.declared.Shelf.{Shelf}
-use Rattle.names.specs.declared.Found.{Found}
-use Rattle.names.specs.declared.Found.TheVariants.{At, Nothing}
+use Rattle.std.specs.Prelude.{Option, None, Some}
+use Rattle.std.specs.Option.{unwrap_or}
 use Rattle.names.specs.Names.{place_among}
 use Rattle.names.specs.Told.{found_as}
 use Rattle.names.specs.Book.{name_at, names_in, one_more, Book, Added}
@@ -50,32 +50,31 @@ booked_on {cap = cap} {n = n} {m} {w} {w'} k l h = record {
 }
 
 -- ---- the number
-was_there : (p : ℕ) {r : Found} {i : ℕ} → r ≡ found_as p → r ≡ At i → p ≡ suc i
+was_there : (p : ℕ) {r : Option ℕ} {i : ℕ} → r ≡ found_as p → r ≡ Some i → p ≡ suc i
 unfolding found_as
 was_there zero q w = let z : ◌≡◌ {A = ℕ} 0 1 = cc in absurd (omega arith)
 was_there (suc p) {r} {i} q w = let z : p ≡ i = cc in ap suc z
 
-was_new : (p : ℕ) {r : Found} → r ≡ found_as p → r ≡ Nothing → p ≡ 0
+was_new : (p : ℕ) {r : Option ℕ} → r ≡ found_as p → r ≡ None → p ≡ 0
 unfolding found_as
 was_new zero q w = refl
 was_new (suc p) q w = let z : ◌≡◌ {A = ℕ} 0 1 = cc in absurd (omega arith)
 
-module _ {first second : List ℕ} {shelf : Shelf} {w : List ℕ} (b : Book first second shelf w) (text : Span) {r : Found}
+by_place : (names : List (List ℕ)) (p : ℕ) {n : ℕ} → n ≡ length names → unwrap_or (found_as p) n ≡ number_by names p
+unfolding found_as number_by
+by_place names zero e = e
+by_place names (suc i) e = refl
+
+module _ {first second : List ℕ} {shelf : Shelf} {w : List ℕ} (b : Book first second shelf w) (text : Span) {r : Option ℕ}
     (q : r ≡ found_as (place_among (name_at first second shelf w) (part text.from text.to second) shelf.count)) where
   known : known_as (names_in first second shelf w) (text_at second text)
       ≡ place_among (name_at first second shelf w) (part text.from text.to second) shelf.count
   unfolding known_as text_at
   known = sym (found_known (booked_here b) (part text.from text.to second))
 
-  pub number_old : {i : ℕ} → r ≡ At i → i ≡ number_of (names_in first second shelf w) (text_at second text)
-  unfolding number_of number_by
-  number_old e = rw (known, was_there (place_among (name_at first second shelf w) (part text.from text.to second) shelf.count) q e)
-
-  pub number_new : r ≡ Nothing → shelf.count ≡ number_of (names_in first second shelf w) (text_at second text)
-  unfolding number_of number_by
-  number_new e =
-      rw (known, was_new (place_among (name_at first second shelf w) (part text.from text.to second) shelf.count) q e)
-      (booked_count (booked_here b))
+  pub number_told : unwrap_or r shelf.count ≡ number_of (names_in first second shelf w) (text_at second text)
+  unfolding number_of
+  number_told = rw (q, known) (by_place (names_in first second shelf w) (place_among (name_at first second shelf w) (part text.from text.to second) shelf.count) (booked_count (booked_here b)))
 
 -- ---- the names with it
 module _ {first second : List ℕ} {shelf : Shelf} {w : List ℕ} (b : Book first second shelf w) (number : ℕ) (text : Span) where
@@ -122,9 +121,9 @@ module _ {b : List ℕ} {shelf : Shelf} {w : List ℕ} (k : Book b b shelf w) (t
   unfolding trip_is
   trip_last e h = rw (← e, h)
 
-  module _ {l : Bool} (e : l ≡ is_last (names_in b b shelf w) (text_at b text)) (n : l ≡ false) {r : Found}
+  module _ {l : Bool} (e : l ≡ is_last (names_in b b shelf w) (text_at b text)) (n : l ≡ false) {r : Option ℕ}
       (q : r ≡ found_as (place_among (name_at b b shelf w) (part text.from text.to b) shelf.count)) where
-    pub trip_gone : {i : ℕ} → r ≡ At i → Gone ≡ trip_is (names_in b b shelf w) (text_at b text)
+    pub trip_gone : {i : ℕ} → r ≡ Some i → Gone ≡ trip_is (names_in b b shelf w) (text_at b text)
     unfolding trip_is
     trip_gone {i} h =
         rw (
@@ -134,7 +133,7 @@ module _ {b : List ℕ} {shelf : Shelf} {w : List ℕ} (k : Book b b shelf w) (t
               (known k text q ∙ was_there (place_among (name_at b b shelf w) (part text.from text.to b) shelf.count) q h),
         )
 
-    pub trip_new : r ≡ Nothing → New ≡ trip_is (names_in b b shelf w) (text_at b text)
+    pub trip_new : r ≡ None → New ≡ trip_is (names_in b b shelf w) (text_at b text)
     unfolding trip_is
     trip_new h =
         rw (

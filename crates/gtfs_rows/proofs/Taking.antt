@@ -18,8 +18,10 @@ use Rattle.feed.specs.Times.{TimeLine, Took as TookLine, kept, bad, out_of_room,
 use Rattle.feed.specs.Spans.{time_at}
 use Rattle.gtfs_rows.specs.declared.times.Trip.{Trip}
 use Rattle.gtfs_rows.specs.declared.times.Trip.TheVariants.{Last, New, Gone}
-use Rattle.gtfs_rows.specs.declared.times.Plan.{Plan}
-use Rattle.gtfs_rows.specs.declared.times.Plan.TheVariants.{Enter, Bad, Full}
+use Rattle.std.specs.Prelude.{Result, Ok, Err}
+use Rattle.gtfs_rows.specs.declared.times.Numbers.{Numbers}
+use Rattle.gtfs_rows.specs.declared.times.Fault.{Fault}
+use Rattle.gtfs_rows.specs.declared.times.Fault.TheVariants.{Bad, Full}
 use Rattle.gtfs_rows.specs.declared.times.Reached.{Reached}
 use Rattle.gtfs_rows.specs.Named.{names_with}
 use Rattle.gtfs_rows.specs.Taking.{trip_is, with_time, plan_by, plan_under, plan_of}
@@ -27,12 +29,12 @@ use Rattle.feed.proofs.Naming.{known_most, number_least}
 use Rattle.gtfs_rows.proofs.Named.{with_named, with_old, with_next}
 
 -- what a plan says of a feed that takes a line or refuses it
-abbrev pub Plans : Room → TimeLine → Feed → TookLine → Plan → Type 0
-Plans room l f k (Enter trip stop) =
-    (k ≡ kept (with_time f l trip stop)) × (trip ≤ length f.trips) × (stop ≤ length f.stops) × (trip < room.trips) × (stop < room.stops)
+abbrev pub Plans : Room → TimeLine → Feed → TookLine → Result Numbers Fault → Type 0
+Plans room l f k (Ok n) =
+    (k ≡ kept (with_time f l n.trip n.stop)) × (n.trip ≤ length f.trips) × (n.stop ≤ length f.stops) × (n.trip < room.trips) × (n.stop < room.stops)
     × (length f.times < room.times)
-Plans room l f k Bad = k ≡ bad
-Plans room l f k Full = k ≡ out_of_room
+Plans room l f k (Err Bad) = k ≡ bad
+Plans room l f k (Err Full) = k ≡ out_of_room
 
 -- ---- the names after it fit where its number does
 named_fits : (names : List (List ℕ)) (t : List ℕ) (cap : ℕ) → length names ≤ cap
@@ -97,38 +99,21 @@ plan_right room l f at few trips times =
     (entered_right room l f few (f.trips ++ (t ∷ [])) at.trips more (sym (with_next f.trips t at.trips (sym trips))) (omega arith)))))
 
 -- ---- as the code goes
-module _ (room : Room) (times trip stop : ℕ) where
-  pub no_trip : room.trips ≤ trip → Full ≡ plan_by room times trip stop
-  unfolding plan_by
-  no_trip h = rw (le-ltb trip room.trips h)
-
-  pub no_stop : trip < room.trips → room.stops ≤ stop → Full ≡ plan_by room times trip stop
-  unfolding plan_by
-  no_stop h k = rw (lt-ltb trip room.trips h, le-ltb stop room.stops k)
-
-  pub no_row : trip < room.trips → stop < room.stops → room.times ≤ times → Full ≡ plan_by room times trip stop
-  unfolding plan_by
-  no_row h k m = rw (lt-ltb trip room.trips h, lt-ltb stop room.stops k, le-ltb times room.times m)
-
-  pub a_row : trip < room.trips → stop < room.stops → times < room.times → Enter trip stop ≡ plan_by room times trip stop
-  unfolding plan_by
-  a_row h k m = rw (lt-ltb trip room.trips h, lt-ltb stop room.stops k, lt-ltb times room.times m)
-
 module _ (room : Room) (b : List ℕ) (v : TimeSpans) (stops trips : List (List ℕ)) (at : Reached) {is : Trip} {number : ℕ}
     (p : is ≡ trip_is trips (text_at b v.trip)) (q : number ≡ number_of stops (text_at b v.stop)) where
-  pub plan_gone : is ≡ Gone → Bad ≡ plan_of room (time_at b v) stops trips at
+  pub plan_gone : is ≡ Gone → Err Bad ≡ plan_of room (time_at b v) stops trips at
   unfolding plan_of plan_under time_at
   plan_gone e = rw (← p, e)
 
-  pub plan_fallen : is ≡ Last → v.sequence ≤ at.last → Bad ≡ plan_of room (time_at b v) stops trips at
+  pub plan_fallen : is ≡ Last → v.sequence ≤ at.last → Err Bad ≡ plan_of room (time_at b v) stops trips at
   unfolding plan_of plan_under time_at
   plan_fallen e h = rw (← p, e, le-ltb at.last v.sequence h)
 
-  pub plan_last : is ≡ Last → at.last < v.sequence → {r : Plan} → r ≡ plan_by room at.times (at.trips - 1) number
+  pub plan_last : is ≡ Last → at.last < v.sequence → {r : Result Numbers Fault} → r ≡ plan_by room at.times (at.trips - 1) number
       → r ≡ plan_of room (time_at b v) stops trips at
   unfolding plan_of plan_under time_at
   plan_last e h k = k ∙ rw (← p, e, lt-ltb at.last v.sequence h, ← q)
 
-  pub plan_new : is ≡ New → {r : Plan} → r ≡ plan_by room at.times at.trips number → r ≡ plan_of room (time_at b v) stops trips at
+  pub plan_new : is ≡ New → {r : Result Numbers Fault} → r ≡ plan_by room at.times at.trips number → r ≡ plan_of room (time_at b v) stops trips at
   unfolding plan_of plan_under time_at
   plan_new e k = k ∙ rw (← p, e, ← q)

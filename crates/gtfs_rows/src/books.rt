@@ -8,7 +8,7 @@ ghost use Rattle.feed.specs.Orderly.{seen_after};
 ghost use Rattle.gtfs_rows.specs.Named.{names_with, counting};
 
 use columns::Span;
-use names::{Found, Shelf};
+use names::Shelf;
 
 // The number of the text, the next one where it is new.
 pub fn number_of(first: &[u8], second: &[u8], book: &[u32], shelf: Shelf, text: Span) -> u32
@@ -17,11 +17,7 @@ pub fn number_of(first: &[u8], second: &[u8], book: &[u32], shelf: Shelf, text: 
     ensures { result ≡ number_of (names_in first.now second.now shelf book.now)
         (text_at second.now text) }
 {
-    let found = names::find(first, second, book, shelf, text.from, text.to);
-    match found {
-        Found::At(i) => return i,
-        Found::Nothing => return shelf.count,
-    }
+    names::find(first, second, book, shelf, text.from, text.to).unwrap_or(shelf.count)
 }
 
 // Puts the text into the book where its number is the next; how many names there are then.

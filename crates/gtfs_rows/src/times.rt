@@ -12,10 +12,11 @@ ghost use Rattle.gtfs_rows.specs.Taking.{trip_is, plan_by, plan_of, stop_shelf, 
 use super::{books, rows};
 use columns::Span;
 use feed::{Room, TimeSpans};
-use names::{Found, Shelf};
+use names::Shelf;
 
-// Whose row a line is: of the trip of the row before, of a new one, or of one that stood before another.
-#[derive(Clone, Copy)]
+// Whose row a line is: of the trip of the row before, of a new one, or of one that stood before another. Stays an enum of its
+// own: it has three cases.
+#[derive(Clone, Copy, Debug, PartialEq, Eq)]
 pub enum Trip {
     Last,
     New,
@@ -31,18 +32,40 @@ pub struct Reached {
     pub last: u32,
 }
 
-// The numbers of a row's trip and stop, or why it is not taken.
-#[derive(Clone, Copy)]
-pub enum Plan {
-    Enter { trip: u32, stop: u32 },
-    Bad,
-    Full,
+impl Reached {
+    // The stops that are named so far, as their book has them.
+    fn stop_shelf(self, room: Room) -> Shelf
+        ensures { result ≡ stop_shelf room self }
+    {
+        Shelf {
+            cap: room.stops,
+            split: 0,
+            count: self.stops,
+        }
+    }
+
+    // The trips.
+    fn trip_shelf(self, room: Room) -> Shelf
+        ensures { result ≡ trip_shelf room self }
+    {
+        Shelf {
+            cap: room.trips,
+            split: 0,
+            count: self.trips,
+        }
+    }
 }
 
-// What became of a row.
+// The numbers of a row's trip and its stop.
 #[derive(Clone, Copy)]
-pub enum Took {
-    Kept(Reached),
+pub struct Numbers {
+    pub trip: u32,
+    pub stop: u32,
+}
+
+// Why a row is not taken: its line is bad, or a table is full.
+#[derive(Clone, Copy, Debug, PartialEq, Eq)]
+pub enum Fault {
     Bad,
     Full,
 }
@@ -86,30 +109,21 @@ fn trip_of(bytes: &[u8], trips: &[u32], shelf: Shelf, text: Span) -> Trip
     if is_last(bytes, trips, shelf, text) {
         return Trip::Last;
     }
-    let found = names::find(bytes, bytes, trips, shelf, text.from, text.to);
-    match found {
-        Found::At(_) => return Trip::Gone,
-        Found::Nothing => return Trip::New,
+    match names::find(bytes, bytes, trips, shelf, text.from, text.to) {
+        Some(_) => Trip::Gone,
+        None => Trip::New,
     }
 }
 
 // A row of this trip and this stop, while there is room.
-fn plan_by(room: Room, times: u32, trip: u32, stop: u32) -> Plan
+#[tactic(auto, unfolding(crate::specs::Taking::plan_by))]
+fn plan_by(room: Room, times: u32, trip: u32, stop: u32) -> Result<Numbers, Fault>
     ensures { result ≡ plan_by room times trip stop }
 {
-    if room.trips <= trip {
-        return Plan::Full;
+    if room.trips <= trip || room.stops <= stop || room.times <= times {
+        return Err(Fault::Full);
     }
-    if room.stops <= stop {
-        return Plan::Full;
-    }
-    if room.times <= times {
-        return Plan::Full;
-    }
-    Plan::Enter {
-        trip: trip,
-        stop: stop,
-    }
+    Ok(Numbers { trip, stop })
 }
 
 // What becomes of a line.
@@ -120,7 +134,7 @@ pub fn plan_of(
     room: Room,
     at: Reached,
     line: TimeSpans,
-) -> Plan
+) -> Result<Numbers, Fault>
     requires book { Book bytes.now bytes.now (stop_shelf room at) stops.now }
     requires book_2 { Book bytes.now bytes.now (trip_shelf room at) trips.now }
     requires spanned { Spanned bytes.now line.trip }
@@ -129,29 +143,16 @@ pub fn plan_of(
         (names_in bytes.now bytes.now (stop_shelf room at) stops.now)
         (names_in bytes.now bytes.now (trip_shelf room at) trips.now) at }
 {
-    let trip = line.trip;
-    let stop = line.stop;
-    let trip_shelf = Shelf {
-        cap: room.trips,
-        split: 0,
-        count: at.trips,
-    };
-    let stop_shelf = Shelf {
-        cap: room.stops,
-        split: 0,
-        count: at.stops,
-    };
-    let is = trip_of(bytes, trips, trip_shelf, trip);
-    let number = books::number_of(bytes, bytes, stops, stop_shelf, stop);
-    match is {
+    let stop = books::number_of(bytes, bytes, stops, at.stop_shelf(room), line.stop);
+    match trip_of(bytes, trips, at.trip_shelf(room), line.trip) {
         Trip::Last => {
             if line.sequence <= at.last {
-                return Plan::Bad;
+                return Err(Fault::Bad);
             }
-            return plan_by(room, at.times, at.trips - 1, number);
+            plan_by(room, at.times, at.trips - 1, stop)
         }
-        Trip::New => return plan_by(room, at.times, at.trips, number),
-        Trip::Gone => return Plan::Bad,
+        Trip::New => plan_by(room, at.times, at.trips, stop),
+        Trip::Gone => Err(Fault::Bad),
     }
 }
 
@@ -176,29 +177,10 @@ pub fn enter(
         (names_with (names_in bytes.now bytes.now (trip_shelf room at) trips.old) entry.trip
         (text_at bytes.now entry.line.trip)) }
 {
-    let line = entry.line;
-    let trip = line.trip;
-    let stop = line.stop;
-    let trip_shelf = Shelf {
-        cap: room.trips,
-        split: 0,
-        count: at.trips,
-    };
-    let stop_shelf = Shelf {
-        cap: room.stops,
-        split: 0,
-        count: at.stops,
-    };
-    let named_trips = books::name(bytes, bytes, trips, trip_shelf, entry.trip, trip);
-    let named_stops = books::name(bytes, bytes, stops, stop_shelf, entry.stop, stop);
-    rows::put_row(
-        times,
-        at.times,
-        entry.trip,
-        entry.stop,
-        line.arrival,
-        line.departure,
-    );
+    let Entry { trip, stop, line } = entry;
+    let named_trips = books::name(bytes, bytes, trips, at.trip_shelf(room), trip, line.trip);
+    let named_stops = books::name(bytes, bytes, stops, at.stop_shelf(room), stop, line.stop);
+    rows::put_row(times, at.times, trip, stop, line.arrival, line.departure);
     Reached {
         stops: named_stops,
         trips: named_trips,
@@ -216,25 +198,12 @@ pub fn take(
     room: Room,
     at: Reached,
     line: TimeSpans,
-) -> Took
+) -> Result<Reached, Fault>
     requires { Takeable bytes.now room at line times.old stops.old trips.old }
     ensures { Takes bytes.now room at line result times.old stops.old trips.old
         times.new stops.new trips.new }
 {
-    let plan = plan_of(bytes, stops, trips, room, at, line);
-    match plan {
-        Plan::Enter {
-            trip: trip,
-            stop: stop,
-        } => {
-            let entry = Entry {
-                trip: trip,
-                stop: stop,
-                line: line,
-            };
-            return Took::Kept(enter(bytes, times, stops, trips, room, at, entry));
-        }
-        Plan::Bad => return Took::Bad,
-        Plan::Full => return Took::Full,
-    }
+    let Numbers { trip, stop } = plan_of(bytes, stops, trips, room, at, line)?;
+    let entry = Entry { trip, stop, line };
+    Ok(enter(bytes, times, stops, trips, room, at, entry))
 }

@@ -2,7 +2,7 @@
 -- Assumes nothing.
 use Prim.Native.Nat.{ℕ, suc, ◌+◌, ◌≤◌, ◌<◌}
 use mathlib.Core.Path.{◌≡◌, refl, sym, ap, subst, ◌∙◌}
-use mathlib.Core.Option.{none, some}
+use Rattle.std.specs.Prelude.{Option, None, Some, Result, Ok, Err}
 use mathlib.Core.List.{List, [], ◌∷◌}
 use native.Mathlib.Omega.{arith}
 use lib.ListN.{length, drop, drop_of_length-le}
@@ -19,7 +19,7 @@ use Rattle.names.proofs.Booking.{booked_count}
 use Rattle.feed.specs.declared.Room.{Room}
 use Rattle.feed.specs.declared.TimesColumns.{TimesColumns}
 use Rattle.feed.specs.declared.TimeSpans.{TimeSpans}
-use Rattle.feed.specs.declared.Ending.TheVariants.{Done, Bad as BadLine, Full as Filled}
+use Rattle.feed.specs.declared.Unread.TheVariants.{Bad as BadLine, Full as Filled}
 use Rattle.feed.specs.Feed.{TimeRow, Feed, empty_feed, End, done, bad_times, full, Got}
 use Rattle.feed.specs.Times.{time_line, take_time, times_from}
 use Rattle.feed.specs.Spans.{time_at}
@@ -27,15 +27,12 @@ use Rattle.feed.specs.Rows.{flat_by, time_words, flat_times}
 use Rattle.feed.proofs.Stopping.{time_none, time_bad, time_full, time_goes}
 use Rattle.feed.proofs.Rows.{flat_times_length, flat_times_append}
 use Rattle.feed.specs.Ending.{ending_of}
-use Rattle.gtfs_lines.specs.declared.TimeRead.{TimeRead}
-use Rattle.gtfs_lines.specs.declared.TimeRead.TheVariants.{Values, Bad as Unread}
 use Rattle.gtfs_lines.specs.Values.{time_read, TimeSpanned}
 use Rattle.feed.proofs.Naming.{seen_least}
-use Rattle.gtfs_rows.specs.declared.times.Plan.{Plan}
-use Rattle.gtfs_rows.specs.declared.times.Plan.TheVariants.{Enter, Bad, Full}
+use Rattle.gtfs_rows.specs.declared.times.Numbers.{Numbers}
+use Rattle.gtfs_rows.specs.declared.times.Fault.{Fault}
+use Rattle.gtfs_rows.specs.declared.times.Fault.TheVariants.{Bad, Full}
 use Rattle.gtfs_rows.specs.declared.times.Reached.{Reached}
-use Rattle.gtfs_rows.specs.declared.times.Took.{Took}
-use Rattle.gtfs_rows.specs.declared.times.Took.TheVariants.{Kept, Bad as Unfit, Full as NoRoom}
 use Rattle.gtfs_rows.specs.Taking.{with_time, stop_shelf, trip_shelf, after_entry, Takeable, plan_in, took_by, LeftBy, Takes}
 use Rattle.gtfs_rows.proofs.Taking.{Plans, plan_right}
 use Rattle.gtfs_rows.proofs.Naming.{booked_on}
@@ -90,7 +87,7 @@ module _ {b : List ℕ} {c : TimesColumns} {room : Room} {whole : Got} {x₀ s�
   unfolding times_from
   end_here h = rw (drop_of_length-le b h, lines_none)
 
-  pub done_told : length b ≤ i → {r : TimesTold} → r ≡ told_at at Done → r ≡ times_told whole
+  pub done_told : length b ≤ i → {r : TimesTold} → r ≡ told_at at (Ok tt) → r ≡ times_told whole
   unfolding ending_of
   done_told h o = o ∙ told done (end_here h)
 
@@ -102,29 +99,29 @@ module _ {b : List ℕ} {c : TimesColumns} {room : Room} {whole : Got} {x₀ s�
   line_fits h = number_fits g.filling h
 
   -- the line that begins at i
-  module _ {l : TextLine} (m : LineAt b i l) {j : TimeRead} (o : time_read b j ≡ time_line c (part i l.end b)) where
-    module _ (n : j ≡ Unread) where
+  module _ {l : TextLine} (m : LineAt b i l) {j : Option TimeSpans} (o : time_read b j ≡ time_line c (part i l.end b)) where
+    module _ (n : j ≡ None) where
       no_form : times_from c room (at.times + 2) (lines (drop i b)) g.feed at.last ≡ record { feed = g.feed; end = bad_times (at.times + 2) }
       unfolding time_read
       no_form =
-          let q : time_line c (part i l.end b) ≡ none = rw n at (sym o) in
+          let q : time_line c (part i l.end b) ≡ None = rw n at (sym o) in
           rw m.parted (time_none c room (at.times + 2) (part i l.end b) (lines (drop l.next b)) g.feed at.last q)
 
-      pub form_told : {r : TimesTold} → r ≡ told_at at (BadLine (at.times + 2)) → r ≡ times_told whole
+      pub form_told : {r : TimesTold} → r ≡ told_at at (Err (BadLine (at.times + 2))) → r ≡ times_told whole
       unfolding ending_of
       form_told z = z ∙ told (bad_times (at.times + 2)) no_form
 
       pub form_left : TimesLeft room b whole x₀ s₀ t₀ x s t
       form_left = left (bad_times (at.times + 2)) no_form
 
-    module _ (v : TimeSpans) (n : j ≡ Values v) where
-      q : time_line c (part i l.end b) ≡ some (time_at b v)
+    module _ (v : TimeSpans) (n : j ≡ Some v) where
+      q : time_line c (part i l.end b) ≡ Some (time_at b v)
       unfolding time_read
       q = rw n at (sym o)
 
       pub takeable : TimeSpanned b j → Takeable b room at v x s t
       takeable y =
-          let w : TimeSpanned b (Values v) = subst (TimeSpanned b) n y in
+          let w : TimeSpanned b (Some v) = subst (TimeSpanned b) n y in
           record {
             stop_book = g.stops_held.book;
             trip_book = g.trips_held.book;
@@ -144,32 +141,32 @@ module _ {b : List ℕ} {c : TimesColumns} {room : Room} {whole : Got} {x₀ s�
           rw (g.stops_held.texts, g.trips_held.texts)
           (plan_right room (time_at b v) g.feed at few (sym (booked_count g.trips_held)) counted)
 
-      no_plan : plan_in b room at v s t ≡ Bad → times_from c room (at.times + 2) (lines (drop i b)) g.feed at.last ≡ record { feed = g.feed; end = bad_times (at.times + 2) }
+      no_plan : plan_in b room at v s t ≡ Err Bad → times_from c room (at.times + 2) (lines (drop i b)) g.feed at.last ≡ record { feed = g.feed; end = bad_times (at.times + 2) }
       no_plan z =
           rw m.parted (time_bad c room (at.times + 2) (part i l.end b) (lines (drop l.next b)) g.feed at.last q (rw z at right))
 
-      no_room : plan_in b room at v s t ≡ Full → times_from c room (at.times + 2) (lines (drop i b)) g.feed at.last ≡ record { feed = g.feed; end = full }
+      no_room : plan_in b room at v s t ≡ Err Full → times_from c room (at.times + 2) (lines (drop i b)) g.feed at.last ≡ record { feed = g.feed; end = full }
       no_room z =
           rw m.parted (time_full c room (at.times + 2) (part i l.end b) (lines (drop l.next b)) g.feed at.last q (rw z at right))
 
       -- a row that is taken
-      entered_on : {trip stop : ℕ} → plan_in b room at v s t ≡ Enter trip stop → {x' s' t' : List ℕ} → LeftBy b room at v (Enter trip stop) x s t x' s' t'
-          → Going b c room whole x₀ s₀ t₀ l.next (after_entry at (record { trip = trip; stop = stop; line = v })) x' s' t'
+      entered_on : (e : Numbers) → plan_in b room at v s t ≡ Ok e → {x' s' t' : List ℕ} → LeftBy b room at v (Ok e) x s t x' s' t'
+          → Going b c room whole x₀ s₀ t₀ l.next (after_entry at (record { trip = e.trip; stop = e.stop; line = v })) x' s' t'
       unfolding after_entry with_time time_at
-      entered_on {trip} {stop} z {x'} {s'} {t'} y =
-          let w : Plans room (time_at b v) g.feed (take_time room (time_at b v) g.feed at.last) (Enter trip stop) = rw z at right in
-          let row : TimeRow = record { trip = trip; stop = stop; arrival = v.arrival; departure = v.departure } in
-          let words = trip ∷ stop ∷ v.arrival ∷ v.departure ∷ [] in
+      entered_on e z {x'} {s'} {t'} y =
+          let w : Plans room (time_at b v) g.feed (take_time room (time_at b v) g.feed at.last) (Ok e) = rw z at right in
+          let row : TimeRow = record { trip = e.trip; stop = e.stop; arrival = v.arrival; departure = v.departure } in
+          let words = e.trip ∷ e.stop ∷ v.arrival ∷ v.departure ∷ [] in
           record {
-            feed = with_time g.feed (time_at b v) trip stop;
+            feed = with_time g.feed (time_at b v) e.trip e.stop;
             rest =
                 (let line : at.times + 1 + 2 ≡ suc (at.times + 2) = omega arith in
                 rw line
                 (sym (time_goes c room (at.times + 2) (part i l.end b) (lines (drop l.next b)) g.feed at.last q w.0)
                 ∙ ap (λ (ls : List (List ℕ)). times_from c room (at.times + 2) ls g.feed at.last) (sym m.parted)
                 ∙ g.rest));
-            stops_held = booked_on g.stops_held (rw g.stops_held.texts at y.1) (seen_least at.stops stop);
-            trips_held = booked_on g.trips_held (rw g.trips_held.texts at y.2) (seen_least at.trips trip);
+            stops_held = booked_on g.stops_held (rw g.stops_held.texts at y.1) (seen_least at.stops e.stop);
+            trips_held = booked_on g.trips_held (rw g.trips_held.texts at y.2) (seen_least at.trips e.trip);
             filling =
                 rw (flat_times_append g.feed.times (row ∷ []), row_words row)
                 (row_more g.filling m (omega (arith, w.5, counted)) words refl y.0);
@@ -177,62 +174,52 @@ module _ {b : List ℕ} {c : TimesColumns} {room : Room} {whole : Got} {x₀ s�
           }
 
       -- what became of it
-      module _ {r : Took} {x' s' t' : List ℕ} (y : Takes b room at v r x s t x' s' t') where
-        of : (p : Plan) → plan_in b room at v s t ≡ p → (r ≡ took_by at v p) × LeftBy b room at v p x s t x' s' t'
-        of p z = (y.said ∙ ap (took_by at v) z, subst (λ (p : Plan). LeftBy b room at v p x s t x' s' t') z y.left)
+      module _ {r : Result Reached Fault} {x' s' t' : List ℕ} (y : Takes b room at v r x s t x' s' t') where
+        of : (p : Result Numbers Fault) → plan_in b room at v s t ≡ p → (r ≡ took_by at v p) × LeftBy b room at v p x s t x' s' t'
+        of p z = (y.said ∙ ap (took_by at v) z, subst (λ (p : Result Numbers Fault). LeftBy b room at v p x s t x' s' t') z y.left)
 
-        pub going_on : (at' : Reached) → r ≡ Kept at' → Going b c room whole x₀ s₀ t₀ l.next at' x' s' t'
+        pub going_on : (at' : Reached) → r ≡ Ok at' → Going b c room whole x₀ s₀ t₀ l.next at' x' s' t'
         unfolding took_by
         going_on at' e = go (plan_in b room at v s t) refl
           where
-            go : (p : Plan) → plan_in b room at v s t ≡ p → Going b c room whole x₀ s₀ t₀ l.next at' x' s' t'
-            go (Enter trip stop) z =
-                let o : Kept at' ≡ Kept (after_entry at (record { trip = trip; stop = stop; line = v })) = sym e ∙ (of (Enter trip stop) z).0 in
-                let a : at' ≡ after_entry at (record { trip = trip; stop = stop; line = v }) = cc in
-                rw a (entered_on z (of (Enter trip stop) z).1)
-            go Bad z = let o : Kept at' ≡ Unfit = sym e ∙ (of Bad z).0 in let n : ◌≡◌ {A = ℕ} 0 1 = cc in absurd (omega arith)
-            go Full z = let o : Kept at' ≡ NoRoom = sym e ∙ (of Full z).0 in let n : ◌≡◌ {A = ℕ} 0 1 = cc in absurd (omega arith)
+            go : (p : Result Numbers Fault) → plan_in b room at v s t ≡ p → Going b c room whole x₀ s₀ t₀ l.next at' x' s' t'
+            go (Ok n) z =
+                let o : Ok at' ≡ Ok (after_entry at (record { trip = n.trip; stop = n.stop; line = v })) = sym e ∙ (of (Ok n) z).0 in
+                let a : at' ≡ after_entry at (record { trip = n.trip; stop = n.stop; line = v }) = cc in
+                rw a (entered_on n z (of (Ok n) z).1)
+            go (Err f) z = let o : Ok at' ≡ Err f = sym e ∙ (of (Err f) z).0 in let n : ◌≡◌ {A = ℕ} 0 1 = cc in absurd (omega arith)
 
         -- a refusal touches nothing
         ends : (z : End) → times_from c room (at.times + 2) (lines (drop i b)) g.feed at.last ≡ record { feed = g.feed; end = z } → x' ≡ x → s' ≡ s → t' ≡ t
             → TimesLeft room b whole x₀ s₀ t₀ x' s' t'
         ends z o a d e = rw (a, d, e) (left z o)
 
-        is_bad : r ≡ Unfit → (plan_in b room at v s t ≡ Bad) × (x' ≡ x) × (s' ≡ s) × (t' ≡ t)
+        is_not : (f : Fault) → r ≡ Err f → (plan_in b room at v s t ≡ Err f) × (x' ≡ x) × (s' ≡ s) × (t' ≡ t)
         unfolding took_by
-        is_bad e = go (plan_in b room at v s t) refl
+        is_not f e = go (plan_in b room at v s t) refl
           where
-            go : (p : Plan) → plan_in b room at v s t ≡ p → (plan_in b room at v s t ≡ Bad) × (x' ≡ x) × (s' ≡ s) × (t' ≡ t)
-            go (Enter trip stop) z =
-                let o : Kept (after_entry at (record { trip = trip; stop = stop; line = v })) ≡ Unfit = sym (of (Enter trip stop) z).0 ∙ e in
+            go : (p : Result Numbers Fault) → plan_in b room at v s t ≡ p → (plan_in b room at v s t ≡ Err f) × (x' ≡ x) × (s' ≡ s) × (t' ≡ t)
+            go (Ok n) z =
+                let o : Ok (after_entry at (record { trip = n.trip; stop = n.stop; line = v })) ≡ Err f = sym (of (Ok n) z).0 ∙ e in
                 let n : ◌≡◌ {A = ℕ} 0 1 = cc in absurd (omega arith)
-            go Bad z = let w = (of Bad z).1 in (z, w.0, w.1, w.2)
-            go Full z = let o : NoRoom ≡ Unfit = sym (of Full z).0 ∙ e in let n : ◌≡◌ {A = ℕ} 0 1 = cc in absurd (omega arith)
+            go (Err h) z =
+                let o : Err h ≡ Err f = sym (of (Err h) z).0 ∙ e in
+                let w = (of (Err h) z).1 in
+                (cc, w.0, w.1, w.2)
 
-        is_full : r ≡ NoRoom → (plan_in b room at v s t ≡ Full) × (x' ≡ x) × (s' ≡ s) × (t' ≡ t)
-        unfolding took_by
-        is_full e = go (plan_in b room at v s t) refl
-          where
-            go : (p : Plan) → plan_in b room at v s t ≡ p → (plan_in b room at v s t ≡ Full) × (x' ≡ x) × (s' ≡ s) × (t' ≡ t)
-            go (Enter trip stop) z =
-                let o : Kept (after_entry at (record { trip = trip; stop = stop; line = v })) ≡ NoRoom = sym (of (Enter trip stop) z).0 ∙ e in
-                let n : ◌≡◌ {A = ℕ} 0 1 = cc in absurd (omega arith)
-            go Bad z = let o : Unfit ≡ NoRoom = sym (of Bad z).0 ∙ e in let n : ◌≡◌ {A = ℕ} 0 1 = cc in absurd (omega arith)
-            go Full z = let w = (of Full z).1 in (z, w.0, w.1, w.2)
-
-        pub plan_told : r ≡ Unfit → {o : TimesTold} → o ≡ told_at at (BadLine (at.times + 2)) → o ≡ times_told whole
+        pub plan_told : (f : Fault) → r ≡ Err f → f ≡ Bad → {o : TimesTold} → o ≡ told_at at (Err (BadLine (at.times + 2))) → o ≡ times_told whole
         unfolding ending_of
-        plan_told e a = a ∙ told (bad_times (at.times + 2)) (no_plan (is_bad e).0)
+        plan_told f e q a = a ∙ told (bad_times (at.times + 2)) (no_plan (is_not Bad (rw q at e)).0)
 
-        pub plan_left : r ≡ Unfit → TimesLeft room b whole x₀ s₀ t₀ x' s' t'
-        plan_left e = let w = is_bad e in ends (bad_times (at.times + 2)) (no_plan w.0) w.1 w.2 w.3
+        pub plan_left : (f : Fault) → r ≡ Err f → f ≡ Bad → TimesLeft room b whole x₀ s₀ t₀ x' s' t'
+        plan_left f e q = let w = is_not Bad (rw q at e) in ends (bad_times (at.times + 2)) (no_plan w.0) w.1 w.2 w.3
 
-        pub full_told : r ≡ NoRoom → {o : TimesTold} → o ≡ told_at at Filled → o ≡ times_told whole
+        pub full_told : (f : Fault) → r ≡ Err f → f ≡ Full → {o : TimesTold} → o ≡ told_at at (Err Filled) → o ≡ times_told whole
         unfolding ending_of
-        full_told e a = a ∙ told full (no_room (is_full e).0)
+        full_told f e q a = a ∙ told full (no_room (is_not Full (rw q at e)).0)
 
-        pub full_left : r ≡ NoRoom → TimesLeft room b whole x₀ s₀ t₀ x' s' t'
-        full_left e = let w = is_full e in ends full (no_room w.0) w.1 w.2 w.3
+        pub full_left : (f : Fault) → r ≡ Err f → f ≡ Full → TimesLeft room b whole x₀ s₀ t₀ x' s' t'
+        full_left f e q = let w = is_not Full (rw q at e) in ends full (no_room w.0) w.1 w.2 w.3
 
 -- ---- how it begins
 pub going_start : {b : List ℕ} {room : Room} {x s t : List ℕ} {from : ℕ} (c : TimesColumns) → TimesRoom room b x s t

@@ -1,12 +1,12 @@
 -- What the reader of stop_times.txt answers, and what it must be lent.
-use Rattle.std.specs.Prelude.{ℕ, ◌+◌, ◌*◌, ◌≤◌, ◌≡◌, List, length, drop}
+use Rattle.std.specs.Prelude.{ℕ, ◌+◌, ◌*◌, ◌≤◌, ◌≡◌, List, length, drop, Option, None, Some, Result, ⊤}
 use Rattle.base.specs.Put.{with_bytes}
 use Rattle.csv_text.specs.Lines.{lines}
 use Rattle.names.specs.declared.Shelf.{Shelf}
 use Rattle.names.specs.Book.{Empty}
 use Rattle.names.specs.Booked.{Booked}
 use Rattle.feed.specs.declared.Room.{Room}
-use Rattle.feed.specs.declared.Ending.{Ending}
+use Rattle.feed.specs.declared.Unread.{Unread}
 use Rattle.feed.specs.Feed.{empty_feed, bad_times, Got}
 use Rattle.feed.specs.Rows.{flat_times}
 use Rattle.feed.specs.Times.{times_from, read_times}
@@ -14,7 +14,6 @@ use Rattle.feed.specs.Reading.{without_mark}
 use Rattle.feed.specs.Ending.{ending_of}
 use Rattle.gtfs_rows.specs.declared.times.Reached.{Reached}
 use Rattle.gtfs_times.specs.declared.Opened.{Opened}
-use Rattle.gtfs_times.specs.declared.Opened.TheVariants.{Rows, Bad as NoRows}
 use Rattle.gtfs_times.specs.declared.TimesTold.{TimesTold}
 
 unfoldable pub times_told : Got → TimesTold
@@ -27,7 +26,7 @@ times_told g =
     }
 
 -- the same by what was reached
-abbrev pub told_at : Reached → Ending → TimesTold
+abbrev pub told_at : Reached → Result ⊤ Unread → TimesTold
 told_at at ending = record { stops = at.stops; trips = at.trips; times = at.times; ending = ending }
 
 -- ---- the header
@@ -36,15 +35,15 @@ unfoldable pub unopened : Got
 unopened = record { feed = empty_feed; end = bad_times 1 }
 
 -- the rows begin at `from`, and the header's columns are these
-abbrev pub OpensAs : List ℕ → Opened → Room → Type 0
-OpensAs b (Rows c from) room = read_times room (lines (without_mark b)) ≡ times_from c room 2 (lines (drop from b)) empty_feed 0
-OpensAs b NoRows room = read_times room (lines (without_mark b)) ≡ unopened
+abbrev pub OpensAs : List ℕ → Option Opened → Room → Type 0
+OpensAs b (Some o) room = read_times room (lines (without_mark b)) ≡ times_from o.columns room 2 (lines (drop o.from b)) empty_feed 0
+OpensAs b None room = read_times room (lines (without_mark b)) ≡ unopened
 
-abbrev pub Behind : List ℕ → Opened → Type 0
-Behind b (Rows c from) = (1 ≤ from) × (from ≤ length b + 1)
-Behind b NoRows = Unit {0}
+abbrev pub Behind : List ℕ → Option Opened → Type 0
+Behind b (Some o) = (1 ≤ o.from) × (o.from ≤ length b + 1)
+Behind b None = Unit {0}
 
-pub record Opens (b : List ℕ) (r : Opened) : Type 0 where
+pub record Opens (b : List ℕ) (r : Option Opened) : Type 0 where
   pub opens : (room : Room) → OpensAs b r room
   pub starts : Behind b r
 

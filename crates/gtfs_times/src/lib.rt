@@ -1,19 +1,17 @@
 // Reads stop_times.txt into its table and the books of stops and trips.
 #![tactic(auto)]
 
-ghost use Rattle.std.specs.Prelude.{◌≡◌, ◌+◌, ◌*◌, ◌≤◌, length, drop};
+ghost use Rattle.std.specs.Prelude.{Err, ◌≡◌, ◌+◌, ◌*◌, ◌≤◌, length, drop};
 ghost use Rattle.csv_text.specs.Lines.{lines};
 ghost use Rattle.names.specs.Book.{Book};
 ghost use Rattle.feed.specs.Reading.{without_mark};
 ghost use Rattle.feed.specs.Times.{read_times, times_from};
-ghost use Rattle.feed.specs.declared.Ending.TheVariants.{Bad};
+ghost use Rattle.feed.specs.declared.Unread.TheVariants.{Bad};
 ghost use Rattle.feed.specs.Feed.{empty_feed};
 ghost use Rattle.gtfs_times.specs.Told.{times_told, told_at, Opens, Cleared, TimesRoom, no_names, TimesLeft};
 
-use feed::{Ending, Room, TimesColumns};
-use gtfs_headers::TimesHeader;
-use gtfs_lines::TimeRead;
-use gtfs_rows::times::{Reached, Took};
+use feed::{Room, TimesColumns, Unread};
+use gtfs_rows::times::{Fault, Reached};
 
 // So many stops, trips and rows were taken, and how the reading ends.
 #[derive(Clone, Copy)]
@@ -21,27 +19,27 @@ pub struct TimesTold {
     pub stops: u32,
     pub trips: u32,
     pub times: u32,
-    pub ending: Ending,
+    pub ending: Result<(), Unread>,
 }
 
 // How far the rows came, and how the reading ends there.
-fn told(at: Reached, ending: Ending) -> TimesTold
+fn told(at: Reached, ending: Result<(), Unread>) -> TimesTold
     ensures { result ≡ told_at at ending }
 {
     TimesTold {
         stops: at.stops,
         trips: at.trips,
         times: at.times,
-        ending: ending,
+        ending,
     }
 }
 
 // The line behind so many rows is bad: its number is that of the rows and 2.
 fn told_bad(at: Reached) -> TimesTold
     requires { at.times + 2 ≤ 4294967295 }
-    ensures { result ≡ told_at at (Bad (at.times + 2)) }
+    ensures { result ≡ told_at at (Err (Bad (at.times + 2))) }
 {
-    told(at, Ending::Bad(at.times + 2))
+    told(at, Err(Unread::Bad(at.times + 2)))
 }
 
 // Reads the rows from `from` on, where line 2 begins, into empty books.
@@ -70,66 +68,57 @@ fn read_rows(
         times: 0,
         last: 0,
     };
+    // Stays a while: each line says where the next one begins. Stays beside the like loop of gtfs_transfers: lines,
+    // rows, tables and books have other types there, so a shared loop would be handed all that it does.
     while i < bytes.len() {
         let line = csv_text::line(bytes, i);
-        let values = gtfs_lines::time_line(bytes, i, line.end, c);
-        match values {
-            TimeRead::Bad => return told_bad(at),
-            TimeRead::Values(v) => {
-                let took = gtfs_rows::times::take(bytes, times, stops, trips, room, at, v);
-                match took {
-                    Took::Bad => return told_bad(at),
-                    Took::Full => return told(at, Ending::Full),
-                    Took::Kept(reached) => {
-                        at = reached;
-                        i = line.next;
-                    }
-                }
-            }
+        let Some(values) = gtfs_lines::time_line(bytes, i, line.end, c) else {
+            return told_bad(at);
+        };
+        match gtfs_rows::times::take(bytes, times, stops, trips, room, at, values) {
+            Ok(reached) => at = reached,
+            Err(Fault::Bad) => return told_bad(at),
+            Err(Fault::Full) => return told(at, Err(Unread::Full)),
         }
+        i = line.next;
     }
-    told(at, Ending::Done)
+    told(at, Ok(()))
 }
 
 // A file whose header is bad: 14 at line 1.
 fn no_header() -> TimesTold
-    ensures { result ≡ told_at (record { stops = 0; trips = 0; times = 0; last = 0 }) (Bad 1) }
+    ensures { result ≡ told_at (record { stops = 0; trips = 0; times = 0; last = 0 }) (Err (Bad 1)) }
 {
     TimesTold {
         stops: 0,
         trips: 0,
         times: 0,
-        ending: Ending::Bad(1),
+        ending: Err(Unread::Bad(1)),
     }
 }
 
-// Where the rows begin, and where their columns stand; or a header that is bad.
+// Where the rows begin, and where their columns stand.
 #[derive(Clone, Copy)]
-pub enum Opened {
-    Rows { columns: TimesColumns, from: usize },
-    Bad,
+pub struct Opened {
+    pub columns: TimesColumns,
+    pub from: usize,
 }
 
-// Reads the header.
-fn open(bytes: &[u8]) -> Opened
+// Reads the header; nothing where it is bad.
+fn open(bytes: &[u8]) -> Option<Opened>
     requires { length bytes.now ≤ 4294967295 }
     ensures { Opens bytes.now result }
 {
     let a = gtfs_headers::start(bytes);
     if bytes.len() <= a {
-        return Opened::Bad;
+        return None;
     }
     let line = csv_text::line(bytes, a);
-    let header = gtfs_headers::times_header(bytes, a, line.end);
-    match header {
-        TimesHeader::Columns(c) => {
-            return Opened::Rows {
-                columns: c,
-                from: line.next,
-            };
-        }
-        TimesHeader::Bad => return Opened::Bad,
-    }
+    let columns = gtfs_headers::times_header(bytes, a, line.end)?;
+    Some(Opened {
+        columns,
+        from: line.next,
+    })
 }
 
 // Books of no names.
@@ -155,13 +144,11 @@ pub fn read_times(
     ensures times_left { TimesLeft room bytes.now (read_times room (lines (without_mark bytes.now)))
         times.old stops.old trips.old times.new stops.new trips.new }
 {
-    let opened = open(bytes);
     clear_books(stops, trips, room);
-    match opened {
-        Opened::Rows {
-            columns: c,
-            from: from,
-        } => return read_rows(bytes, times, stops, trips, room, c, from),
-        Opened::Bad => return no_header(),
+    match open(bytes) {
+        Some(Opened { columns, from }) => read_rows(
+            bytes, times, stops, trips, room, columns, from,
+        ),
+        None => no_header(),
     }
 }

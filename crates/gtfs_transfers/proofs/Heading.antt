@@ -2,7 +2,7 @@
 -- Assumes nothing.
 use Prim.Native.Nat.{ℕ, ◌≤◌}
 use mathlib.Core.Path.{◌≡◌, refl, sym, ap, ◌∙◌}
-use mathlib.Core.Option.{Option, none, some}
+use Rattle.std.specs.Prelude.{Option, None, Some, Err}
 use mathlib.Core.List.{List}
 use native.Mathlib.Omega.{arith}
 use lib.ListN.{length, drop, drop_of_length-le}
@@ -19,29 +19,16 @@ use Rattle.names.specs.Booked.{Booked}
 use Rattle.names.proofs.Booking.{booked_count, booked_turn}
 use Rattle.feed.specs.declared.Room.{Room}
 use Rattle.feed.specs.declared.TransferColumns.{TransferColumns}
-use Rattle.feed.specs.declared.Ending.TheVariants.{Bad}
+use Rattle.feed.specs.declared.Unread.TheVariants.{Bad}
 use Rattle.feed.specs.Feed.{bad_transfers}
 use Rattle.feed.specs.Columns.{transfer_columns}
 use Rattle.feed.specs.Transfers.{transfers_under, read_transfers}
 use Rattle.feed.specs.Reading.{without_mark}
 use Rattle.feed.specs.Rows.{flat_by, flat_transfers}
 use Rattle.feed.specs.Ending.{ending_of}
-use Rattle.gtfs_headers.specs.declared.TransfersHeader.{TransfersHeader}
-use Rattle.gtfs_headers.specs.declared.TransfersHeader.TheVariants.{Columns, Bad as Wrong}
-use Rattle.gtfs_headers.specs.Headers.{transfers_header_told}
 use Rattle.gtfs_rows.proofs.Naming.{booked_here}
 use Rattle.gtfs_transfers.specs.declared.TransfersTold.{TransfersTold}
 use Rattle.gtfs_transfers.specs.Told.{transfers_told, paths_told_at, stops_only, first_shelf, turned_shelf, transfers_read, rows_read, paths_left, TransfersLeft, PathsLent, PathsBegin}
-
-was_wrong : (o : Option TransferColumns) {x : TransfersHeader} → x ≡ transfers_header_told o → x ≡ Wrong → o ≡ none
-unfolding transfers_header_told
-was_wrong none q w = refl
-was_wrong (some c) q w = let z : ◌≡◌ {A = ℕ} 0 1 = cc in absurd (omega arith)
-
-was_right : (o : Option TransferColumns) {x : TransfersHeader} {c : TransferColumns} → x ≡ transfers_header_told o → x ≡ Columns c → o ≡ some c
-unfolding transfers_header_told
-was_right none q w = let z : ◌≡◌ {A = ℕ} 0 1 = cc in absurd (omega arith)
-was_right (some d) q w = cc
 
 module _ {room : Room} {counted : ℕ} {first second p s : List ℕ} (l : PathsLent room counted first second p s) where
   -- the second file begins
@@ -54,7 +41,7 @@ module _ {room : Room} {counted : ℕ} {first second p s : List ℕ} (l : PathsL
   -- line 1 is bad
   module _ (q : transfers_read room counted first second s
       ≡ record { feed = stops_only (names_in first first (first_shelf room counted) s); end = bad_transfers 1 }) where
-    told : {y : TransfersTold} → y ≡ paths_told_at (record { split = counted; stops = counted; transfers = 0 }) (Bad 1)
+    told : {y : TransfersTold} → y ≡ paths_told_at (record { split = counted; stops = counted; transfers = 0 }) (Err (Bad 1))
         → y ≡ transfers_told (transfers_read room counted first second s)
     unfolding transfers_told paths_told_at ending_of
     told e = e ∙ rw (q, ← many)
@@ -70,7 +57,7 @@ module _ {room : Room} {counted : ℕ} {first second p s : List ℕ} (l : PathsL
       unfolding transfers_read read_transfers
       none_here = rw (← ea, drop_of_length-le second h, lines_none)
 
-      pub none_told : {y : TransfersTold} → y ≡ paths_told_at (record { split = counted; stops = counted; transfers = 0 }) (Bad 1)
+      pub none_told : {y : TransfersTold} → y ≡ paths_told_at (record { split = counted; stops = counted; transfers = 0 }) (Err (Bad 1))
           → y ≡ transfers_told (transfers_read room counted first second s)
       none_told e = told none_here e
 
@@ -78,31 +65,31 @@ module _ {room : Room} {counted : ℕ} {first second p s : List ℕ} (l : PathsL
       none_left = left none_here
 
     -- the header's line
-    module _ {r : TextLine} (k : LineAt second a r) {x : TransfersHeader}
-        (ex : x ≡ transfers_header_told (if_there (fields (part a r.end second)) transfer_columns)) where
+    module _ {r : TextLine} (k : LineAt second a r) {x : Option TransferColumns}
+        (ex : x ≡ if_there (fields (part a r.end second)) transfer_columns) where
       under : transfers_read room counted first second s
-          ≡ transfers_under room (if_there (fields (part a r.end second)) transfer_columns) (lines (drop r.next second))
+          ≡ transfers_under room x (lines (drop r.next second))
           (stops_only (names_in first first (first_shelf room counted) s))
       unfolding transfers_read read_transfers
-      under = rw (← ea, k.parted)
+      under = rw (← ea, k.parted, ex)
 
-      bad_here : x ≡ Wrong → transfers_read room counted first second s
+      bad_here : x ≡ None → transfers_read room counted first second s
           ≡ record { feed = stops_only (names_in first first (first_shelf room counted) s); end = bad_transfers 1 }
       unfolding transfers_under
-      bad_here w = under ∙ rw (was_wrong (if_there (fields (part a r.end second)) transfer_columns) ex w)
+      bad_here w = under ∙ rw w
 
-      pub head_told : x ≡ Wrong → {y : TransfersTold} → y ≡ paths_told_at (record { split = counted; stops = counted; transfers = 0 }) (Bad 1)
+      pub head_told : x ≡ None → {y : TransfersTold} → y ≡ paths_told_at (record { split = counted; stops = counted; transfers = 0 }) (Err (Bad 1))
           → y ≡ transfers_told (transfers_read room counted first second s)
       head_told w f = told (bad_here w) f
 
-      pub head_left : x ≡ Wrong → TransfersLeft room counted first second (transfers_read room counted first second s) p s p s
+      pub head_left : x ≡ None → TransfersLeft room counted first second (transfers_read room counted first second s) p s p s
       head_left w = left (bad_here w)
 
       -- the rows
-      module _ {c : TransferColumns} (w : x ≡ Columns c) where
+      module _ {c : TransferColumns} (w : x ≡ Some c) where
         rows_here : transfers_read room counted first second s ≡ rows_read room c counted r.next first second s
         unfolding transfers_under rows_read
-        rows_here = under ∙ rw (was_right (if_there (fields (part a r.end second)) transfer_columns) ex w, held.texts)
+        rows_here = under ∙ rw (w, held.texts)
 
         pub rows_told : {y : TransfersTold} → y ≡ transfers_told (rows_read room c counted r.next first second s)
             → y ≡ transfers_told (transfers_read room counted first second s)

@@ -1,5 +1,5 @@
 -- What the reader of transfers.txt answers and leaves, and what it must be lent.
-use Rattle.std.specs.Prelude.{ℕ, ◌+◌, ◌*◌, ◌≤◌, ◌≡◌, List, [], length, drop}
+use Rattle.std.specs.Prelude.{ℕ, ◌+◌, ◌*◌, ◌≤◌, ◌≡◌, List, [], length, drop, Result, ⊤}
 use Rattle.base.specs.Put.{with_bytes}
 use Rattle.csv_text.specs.Lines.{lines}
 use Rattle.names.specs.declared.Shelf.{Shelf}
@@ -7,7 +7,7 @@ use Rattle.names.specs.Book.{Book, names_in}
 use Rattle.names.specs.Booked.{Booked}
 use Rattle.feed.specs.declared.Room.{Room}
 use Rattle.feed.specs.declared.TransferColumns.{TransferColumns}
-use Rattle.feed.specs.declared.Ending.{Ending}
+use Rattle.feed.specs.declared.Unread.{Unread}
 use Rattle.feed.specs.Feed.{Feed, Got}
 use Rattle.feed.specs.Ending.{ending_of}
 use Rattle.feed.specs.Rows.{flat_transfers}
@@ -21,7 +21,7 @@ unfoldable pub transfers_told : Got → TransfersTold
 transfers_told g =
     record { stops = length g.feed.stops; transfers = length g.feed.transfers; ending = ending_of g.end }
 
-unfoldable pub paths_told_at : PathsReached → Ending → TransfersTold
+unfoldable pub paths_told_at : PathsReached → Result ⊤ Unread → TransfersTold
 paths_told_at at e = record { stops = at.stops; transfers = at.transfers; ending = e }
 
 -- ---- what is read

@@ -1,22 +1,20 @@
 // Reads transfers.txt into its table and the book of stops.
 #![tactic(auto)]
 
-ghost use Rattle.std.specs.Prelude.{◌≡◌, ◌+◌, ◌≤◌};
-ghost use Rattle.feed.specs.declared.Ending.TheVariants.{Bad};
+ghost use Rattle.std.specs.Prelude.{Err, ◌≡◌, ◌+◌, ◌≤◌};
+ghost use Rattle.feed.specs.declared.Unread.TheVariants.{Bad};
 ghost use Rattle.gtfs_transfers.specs.Told.{transfers_told, paths_told_at, transfers_read, rows_read};
 ghost use Rattle.gtfs_transfers.specs.Told.{TransfersLeft, PathsLent, PathsBegin};
 
-use feed::{Ending, Room, TransferColumns};
-use gtfs_headers::TransfersHeader;
-use gtfs_lines::TransferRead;
-use gtfs_paths::{PathTook, PathsReached};
+use feed::{Room, TransferColumns, Unread};
+use gtfs_paths::PathsReached;
 
 // So many stops have a name, so many rows were taken, and how the reading ends.
 #[derive(Clone, Copy)]
 pub struct TransfersTold {
     pub stops: u32,
     pub transfers: u32,
-    pub ending: Ending,
+    pub ending: Result<(), Unread>,
 }
 
 // How many stops the first file names, and where the rows of the second begin.
@@ -27,22 +25,23 @@ pub struct PathsBegun {
 }
 
 // How far the rows came, and how the reading ends there.
-fn told(at: PathsReached, ending: Ending) -> TransfersTold
+#[tactic(auto, unfolding(crate::specs::Told::paths_told_at))]
+fn told(at: PathsReached, ending: Result<(), Unread>) -> TransfersTold
     ensures { result ≡ paths_told_at at ending }
 {
     TransfersTold {
         stops: at.stops,
         transfers: at.transfers,
-        ending: ending,
+        ending,
     }
 }
 
 // The line behind so many rows is bad: its number is that of the rows and 2.
 fn told_bad(at: PathsReached) -> TransfersTold
     requires { at.transfers + 2 ≤ 4294967295 }
-    ensures { result ≡ paths_told_at at (Bad (at.transfers + 2)) }
+    ensures { result ≡ paths_told_at at (Err (Bad (at.transfers + 2))) }
 {
-    told(at, Ending::Bad(at.transfers + 2))
+    told(at, Err(Unread::Bad(at.transfers + 2)))
 }
 
 // Reads the rows, where line 2 begins.
@@ -68,24 +67,19 @@ fn read_rows(
         stops: begun.counted,
         transfers: 0,
     };
+    // Stays a while: each line says where the next one begins.
     while i < second.len() {
         let line = csv_text::line(second, i);
-        let values = gtfs_lines::transfer_line(second, i, line.end, c);
-        match values {
-            TransferRead::Bad => return told_bad(at),
-            TransferRead::Values(v) => {
-                let took = gtfs_paths::take(first, second, paths, stops, room, at, v);
-                match took {
-                    PathTook::Full => return told(at, Ending::Full),
-                    PathTook::Kept(reached) => {
-                        at = reached;
-                        i = line.next;
-                    }
-                }
-            }
-        }
+        let Some(values) = gtfs_lines::transfer_line(second, i, line.end, c) else {
+            return told_bad(at);
+        };
+        let Some(reached) = gtfs_paths::take(first, second, paths, stops, room, at, values) else {
+            return told(at, Err(Unread::Full));
+        };
+        at = reached;
+        i = line.next;
     }
-    told(at, Ending::Done)
+    told(at, Ok(()))
 }
 
 // Reads the second file, where the book holds so many stops of the first: the rows until they end, a line is bad or there is no room.
@@ -110,18 +104,15 @@ pub fn read_transfers(
     };
     let a = gtfs_headers::start(second);
     if second.len() <= a {
-        return told(none, Ending::Bad(1));
+        return told(none, Err(Unread::Bad(1)));
     }
     let line = csv_text::line(second, a);
-    let head = gtfs_headers::transfers_header(second, a, line.end);
-    match head {
-        TransfersHeader::Bad => return told(none, Ending::Bad(1)),
-        TransfersHeader::Columns(c) => {
-            let begun = PathsBegun {
-                counted: counted,
-                next: line.next,
-            };
-            return read_rows(first, second, paths, stops, room, c, begun);
-        }
-    }
+    let Some(columns) = gtfs_headers::transfers_header(second, a, line.end) else {
+        return told(none, Err(Unread::Bad(1)));
+    };
+    let begun = PathsBegun {
+        counted,
+        next: line.next,
+    };
+    read_rows(first, second, paths, stops, room, columns, begun)
 }

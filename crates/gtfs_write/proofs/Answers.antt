@@ -1,56 +1,70 @@
 -- A writer's answer, by the first test that decides; and what the buffer holds then.
 -- Assumes nothing.
-use Prim.Native.Nat.{ℕ, zero, suc, ◌≤◌, ◌<◌}
+use Prim.Native.Nat.{ℕ, ◌≤◌, ◌<◌}
 use mathlib.Core.Path.{◌≡◌, refl, ap, ◌∙◌}
 use mathlib.Core.Bool.{Bool, true, false}
 use mathlib.Core.List.{List}
 use native.Mathlib.Omega.{arith}
 use borrow.Author.Tests.{le-leb, lt-leb}
+use Rattle.std.specs.Prelude.{Result, Ok, Err, IsErr, IsErrAnd}
 use Rattle.base.specs.Put.{with_bytes}
-use Rattle.gtfs_write.specs.declared.Written.TheVariants.{Bytes, Refused}
+use Rattle.gtfs_write.specs.declared.Unwritten.{Unwritten}
+use Rattle.gtfs_write.specs.declared.Unwritten.TheVariants.{Shape, Listing, Moments, Transfers, Full}
+use Rattle.gtfs_write.specs.Refusing.{unwritten_number, by_number}
 use Rattle.gtfs_write.specs.Written.{answered, held_after}
 
-module _ {rows : Bool} (fault size room : ℕ) {b : Bool} (e : b ≡ rows) where
-  pub answer_no_rows : b ≡ false → Refused 1 ≡ answered rows fault size room
+-- ---- a row at fault
+pub refusal_some : (u : Unwritten) → 0 < unwritten_number u
+refusal_some Shape = omega arith
+refusal_some Listing = omega arith
+refusal_some Moments = omega arith
+refusal_some Transfers = omega arith
+refusal_some Full = omega arith
+
+-- the error that `?` hands on is the one that it met
+pub handed_on : {A E : Type 0} (r : Result A E) {u : E} → IsErr r × IsErrAnd r (λ e. e ≡ u) → r ≡ Err u
+handed_on (Ok x) h = absurd h.1
+handed_on (Err e) h = ap (λ v. Err v) h.1
+
+-- ---- the answer
+module _ {rows : Bool} (fault size room : ℕ) where
+  pub answer_no_rows : false ≡ rows → Err 1 ≡ answered rows fault size room
   unfolding answered
-  answer_no_rows h = rw (← e, h)
+  answer_no_rows e = rw (← e)
 
-  module _ (t : b ≡ true) {k : ℕ} (f : k ≡ fault) where
-    by_fault : answered rows k size room ≡ answered rows fault size room
-    by_fault = ap (λ (j : ℕ). answered rows j size room) f
-
-    pub answer_fault : 0 < k → Refused k ≡ answered rows fault size room
+  module _ (e : true ≡ rows) where
+    by_refusal : (u : Unwritten) → Err (unwritten_number u) ≡ answered rows (unwritten_number u) size room
     unfolding answered
-    answer_fault h = go k h ∙ by_fault
-      where
-        go : (j : ℕ) → 0 < j → Refused j ≡ answered rows j size room
-        go zero h = absurd (omega arith)
-        go (suc j) h = rw (← e, t)
+    by_refusal Shape = rw (← e)
+    by_refusal Listing = rw (← e)
+    by_refusal Moments = rw (← e)
+    by_refusal Transfers = rw (← e)
+    by_refusal Full = rw (← e)
 
-    module _ (z : k ≤ 0) {n : ℕ} (g : n ≡ size) where
-      sized : answered rows 0 n room ≡ answered rows fault size room
-      sized = let q : 0 ≡ k = omega arith in rw (← g, ← f, ← q)
+    pub answer_fault : (u : Unwritten) → unwritten_number u ≡ fault → (r : Result ℕ Unwritten) → IsErr r × IsErrAnd r (λ v. v ≡ u)
+        → by_number r ≡ answered rows fault size room
+    answer_fault u f r h = rw (handed_on r h) (by_refusal u ∙ ap (λ (j : ℕ). answered rows j size room) f)
 
-      pub answer_short : room < n → Refused 15 ≡ answered rows fault size room
+    module _ (z : 0 ≡ fault) {n : ℕ} (g : n ≡ size) where
+      pub answer_short : room < n → Err 15 ≡ answered rows fault size room
       unfolding answered
-      answer_short h = let q : Refused 15 ≡ answered rows 0 n room = rw (← e, t, lt-leb n room h) in q ∙ sized
+      answer_short h = rw (← e, ← z, ← g, lt-leb n room h)
 
-      pub answer_written : n ≤ room → Bytes n ≡ answered rows fault size room
+      pub answer_written : n ≤ room → Ok n ≡ answered rows fault size room
       unfolding answered
-      answer_written h = let q : Bytes n ≡ answered rows 0 n room = rw (← e, t, le-leb n room h) in q ∙ sized
+      answer_written h = rw (← e, ← z, ← g, le-leb n room h)
 
--- what is asked of who writes
-pub no_fault_left : {k f : ℕ} → k ≡ f → k ≤ 0 → f ≡ 0
-no_fault_left e h = omega arith
-
-pub room_enough : {n l m : ℕ} → n ≡ l → n ≤ m → l ≤ m
-room_enough e h = omega arith
-
+-- ---- what the buffer holds
 module _ (b t : List ℕ) where
-  pub held_as_before : (k : ℕ) → b ≡ held_after (Refused k) b t
+  pub held_refused : {E : Type 0} (r : Result ℕ E) → IsErr r → b ≡ held_after r b t
   unfolding held_after
-  held_as_before k = refl
+  held_refused (Ok x) h = cc
+  held_refused (Err e) h = refl
 
-  pub held_text : (n : ℕ) {x : List ℕ} → x ≡ with_bytes b 0 t → x ≡ held_after (Bytes n) b t
+  pub held_as_before : {E : Type 0} (u : E) → b ≡ held_after (Err u) b t
   unfolding held_after
-  held_text n h = h
+  held_as_before u = refl
+
+  pub held_text : (E : Type 0) (n : ℕ) {x : List ℕ} → x ≡ with_bytes b 0 t → x ≡ held_after {E = E} (Ok n) b t
+  unfolding held_after
+  held_text E n h = h

@@ -4,9 +4,8 @@ use Prim.Native.Nat.{ℕ, ◌+◌, ◌^◌, ◌≤◌, ◌<◌}
 use mathlib.Core.Path.{◌≡◌, refl, sym, ap, ◌∙◌}
 use mathlib.Core.List.{List, [], ◌∷◌, ◌++◌, append_assoc, append-nil}
 use native.Mathlib.Omega.{arith}
-use native.Mathlib.Numerals.{add-one}
-use lib.ListN.{length, get_or, set, take, drop, length-append, length-drop, take-append-drop}
-use lib.Seq.{length-take-le, take_all, take_at, drop_at, drop-cons, drop-append-add, drop-drop}
+use lib.ListN.{length, set, take, drop, length-append, length-drop, take-append-drop}
+use lib.Seq.{length-take-le, take_all, take_at, drop_at, drop-append-add, drop-drop}
 use Rattle.base.specs.Put.{with_bytes}
 use Rattle.base.proofs.Put.{put_then, put_one, put_length}
 use Rattle.gtfs_write.specs.Written.{cell}
@@ -17,10 +16,6 @@ pub record Filled (text b₀ b : List ℕ) (at : ℕ) (rest : List ℕ) : Type 0
   pub long : length b ≡ length b₀
   left : drop at text ≡ rest
   so_far : b ≡ with_bytes b₀ 0 (take at text)
-
-pub filled_start : (text b : List ℕ) → length text ≤ length b → Filled text b b 0 text
-unfolding with_bytes
-filled_start text b h = record { room = h; inside = omega arith; long = refl; left = refl; so_far = refl }
 
 module _ {text b₀ b : List ℕ} {at : ℕ} where
   -- what is left is as long as there is to write
@@ -81,18 +76,6 @@ module _ (p b : List ℕ) where
 
   pub filled_over : (rest : List ℕ) {x y : List ℕ} → x ≡ with_bytes b 0 p → y ≡ with_bytes x 0 (p ++ rest) → y ≡ with_bytes b 0 (p ++ rest)
   filled_over rest f g = g ∙ ap (λ (x : List ℕ). with_bytes x 0 (p ++ rest)) f ∙ over rest
-
--- ---- byte by byte
-pub byte_next : (text : List ℕ) {b₀ b : List ℕ} {i : ℕ} → Filled text b₀ b i (drop i text) → i < length text
-    → Filled text b₀ (set b i (get_or text i 0)) (i + 1) (drop (i + 1) text)
-byte_next text {b₀} {b} {i} f h =
-    let p : List ℕ = get_or text i 0 ∷ [] in
-    let e : drop i text ≡ p ++ drop (i + 1) text = rw (drop-cons text i 0 h, add-one) in
-    let g : Filled text b₀ b i (p ++ drop (i + 1) text) = rw (← e) f in
-    filled_next p (drop (i + 1) text) g refl (put_one b i (get_or text i 0) (omega (arith, f.long, f.room)))
-
-pub text_end : (text : List ℕ) {b₀ b : List ℕ} {i : ℕ} → Filled text b₀ b i (drop i text) → length text ≤ i → b ≡ with_bytes b₀ 0 text
-text_end text {b₀} {b} {i} f h = f.so_far ∙ ap (λ (t : List ℕ). with_bytes b₀ 0 t) (take_all i text h)
 
 -- ---- two parts that meet
 module _ (at : ℕ) (p q : List ℕ) where

@@ -4,3 +4,4 @@ pub mod Tests
 pub mod Places
 pub mod Answers
 pub mod Moments
+pub mod Numbered

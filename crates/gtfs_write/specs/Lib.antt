@@ -1,2 +1,3 @@
 -- What the writers of rows share.
 pub mod Written
+pub mod Refusing

@@ -1,10 +1,8 @@
 -- How a writer of rows answers: "15 for a table that is full" where the buffer is too short; nothing is written where it refuses.
-use Rattle.std.specs.Prelude.{ℕ, zero, suc, ◌/◌, ◌%◌, ◌≤◌, ◌≡◌, Bool, cond, ◌&&◌, List, [], ◌∷◌, ◌++◌, leb, eqb, length}
+use Rattle.std.specs.Prelude.{ℕ, zero, suc, ◌/◌, ◌%◌, ◌≤◌, ◌≡◌, Bool, cond, ◌&&◌, List, [], ◌∷◌, ◌++◌, leb, eqb, length, Result, Ok, Err}
 use Rattle.base.specs.Put.{with_bytes}
 use Rattle.model.specs.Limits.{MOST_STOPS, MOST_TRIPS, MOST_STOP_TIMES, MOST_TRANSFERS}
 use Rattle.feed.specs.declared.Room.{Room}
-use Rattle.gtfs_write.specs.declared.Written.{Written}
-use Rattle.gtfs_write.specs.declared.Written.TheVariants.{Bytes, Refused}
 
 -- document 01's
 abbrev pub LIMITS : Room
@@ -18,17 +16,17 @@ pub record Whole (most : ℕ) (w : List ℕ) : Type 0 where
   pub fours : length w % 4 ≡ 0
   pub few : length w / 4 ≤ most
 
--- 1 where the words are no rows or too many, then the rows' fault, then 15 where the text has no room
-unfoldable pub answered : Bool → ℕ → ℕ → ℕ → Written
+-- so many bytes, or the number of a refusal: 1 where the words are no rows or too many, then the rows' fault, then 15 where the text has no room
+unfoldable pub answered : Bool → ℕ → ℕ → ℕ → Result ℕ ℕ
 answered rows fault size room =
     cond rows
-    (elim fault [ zero ↦ cond (leb size room) (Bytes size) (Refused 15) | suc k ↦ Refused (suc k) ])
-    (Refused 1)
+    (elim fault [ zero ↦ cond (leb size room) (Ok size) (Err 15) | suc k ↦ Err (suc k) ])
+    (Err 1)
 
 -- the text stands at the buffer's beginning, or the buffer is as it was
-unfoldable pub held_after : Written → List ℕ → List ℕ → List ℕ
-held_after (Bytes n) out text = with_bytes out 0 text
-held_after (Refused k) out text = out
+unfoldable pub held_after : {E : Type 0} → Result ℕ E → List ℕ → List ℕ → List ℕ
+held_after (Ok n) out text = with_bytes out 0 text
+held_after (Err k) out text = out
 
 -- a text with the byte behind it
 unfoldable pub cell : List ℕ → ℕ → List ℕ

@@ -8,58 +8,67 @@ ghost use Rattle.numbers.specs.Decimal.{digits};
 ghost use Rattle.numbers.specs.Clock.{clock_text};
 ghost use Rattle.feed.specs.Orderly.{stop_fits, seen_after, is_moment};
 ghost use Rattle.gtfs_write.specs.Written.{LIMITS, whole_rows, cell};
+ghost use Rattle.gtfs_write.specs.Refusing.{unwritten_number};
 
 use repository::limits;
 
-// So many bytes, or a number and nothing written.
-#[derive(Clone, Copy)]
-pub enum Written {
-    Bytes(usize),
-    Refused(u32),
+// Why rows are not written: nothing is written then.
+#[derive(Clone, Copy, Debug, PartialEq, Eq)]
+pub enum Unwritten {
+    Shape, // the words are no rows, or too many
+    Listing, // a trip or a stop that is neither known nor the next
+    Moments, // a moment before 0:00:00 or after 99:59:59
+    Transfers, // a type or a span that is none
+    Full, // the buffer is too short
+}
+
+// The number by which C and the documents know it.
+impl From<Unwritten> for u32 {
+    ghost from_gives = { λ refusal number. number ≡ unwritten_number refusal };
+
+    fn from(refusal: Unwritten) -> u32 {
+        match refusal {
+            Unwritten::Shape => 1,
+            Unwritten::Listing => 2,
+            Unwritten::Moments => 3,
+            Unwritten::Transfers => 5,
+            Unwritten::Full => 15,
+        }
+    }
 }
 
 // Whether the words are whole rows, and no more than `most`.
+#[tactic(auto, unfolding(crate::specs::Written::whole_rows))]
 pub fn whole_rows(words: &[u32], most: usize) -> bool
     ensures { result ≡ whole_rows most words.now }
 {
-    let n = words.len();
-    if n % 4 == 0 {
-        return n / 4 <= most;
-    }
-    false
+    words.len() % 4 == 0 && words.len() / 4 <= most
 }
 
 // A stop that has appeared or is the next, while there is room.
+#[tactic(auto, unfolding(feed::specs::Orderly::stop_fits))]
 pub fn stop_fits(stops: u32, s: u32) -> bool
     ensures { result ≡ stop_fits LIMITS stops s }
 {
-    if s <= stops {
-        return (s as usize) < limits::MOST_STOPS;
-    }
-    false
+    s <= stops && (s as usize) < limits::MOST_STOPS
 }
 
 // How many have appeared after s has.
+#[tactic(auto, unfolding(feed::specs::Orderly::seen_after))]
 pub fn seen_after(seen: u32, s: u32) -> u32
     requires { s < 4_294_967_295 }
     ensures { result ≡ seen_after seen s }
 {
-    if s == seen {
-        return seen + 1;
-    }
-    seen
+    if s == seen { seen + 1 } else { seen }
 }
 
 // Writes a text at the buffer's beginning.
+#[tactic(auto, unfolding(base::specs::Put::with_bytes))]
 pub fn write_text(out: &mut [u8], text: &[u8])
     requires { length text.now ≤ length out.old }
     ensures { out.new ≡ with_bytes out.old 0 text.now }
 {
-    let mut i = 0;
-    while i < text.len() {
-        out[i] = text[i];
-        i += 1;
-    }
+    out[..text.len()].copy_from_slice(text);
 }
 
 // Writes a number and the byte behind it, and says where they end.

@@ -1,21 +1,20 @@
 -- A transfer as bytes, the text of all of them, and the two loops over it, which measure and which write.
 -- Assumes nothing.
-use Prim.Native.Nat.{ℕ, ◌+◌, ◌*◌, ◌≤◌, ◌<◌}
-use mathlib.Core.Path.{◌≡◌, refl, sym, ap, ◌∙◌}
+use Prim.Native.Nat.{ℕ, ◌+◌, ◌*◌, ◌/◌, ◌≤◌, ◌<◌}
+use mathlib.Core.Path.{◌≡◌, refl, sym, ap}
 use mathlib.Core.List.{List, [], ◌++◌, append_assoc}
 use native.Mathlib.Omega.{arith}
 use lib.ListN.{length, set, get_or, drop, length-append}
 use borrow.Author.Tests.{eq-eqb, ne_eqb}
 use Rattle.base.specs.Put.{with_bytes}
 use Rattle.base.proofs.Put.{put_one}
-use Rattle.model.specs.Limits.{MOST_TRANSFERS}
 use Rattle.numbers.specs.Decimal.{digits}
-use Rattle.feed.specs.Feed.{TransferRow}
 use Rattle.feed.specs.Columns.{from_stop_id, to_stop_id, transfer_type, min_transfer_time}
 use Rattle.feed.specs.Rows.{transfer_with, transfer_rows_in}
 use Rattle.feed.specs.Writing.{line_with, span_text, transfer_text, transfers_text, transfers_header, write_transfers}
 use Rattle.gtfs_write.specs.Written.{cell}
-use Rattle.gtfs_write.proofs.Places.{AtRow, rows_next, rows_none}
+use Rattle.gtfs_write.proofs.Places.{row_by, rows_next, rows_none}
+use Rattle.std.specs.Simd.{first_chunks}
 use Rattle.gtfs_write.proofs.Filled.{Filled, filled_head, filled_room, filled_next, filled_end, filled_over, cell_length, meet_first, meet_second, meet_end, meet_put}
 
 -- ---- a span
@@ -27,9 +26,6 @@ module _ (k x : ℕ) where
   no_text : (k ≡ 2 → ⊥) → span_text k x ≡ []
   unfolding span_text
   no_text h = rw (ne_eqb k 2 h)
-
-  pub stated_size : k ≡ 2 → {n : ℕ} → (n ≡ length (digits x)) × (n ≤ 10) → n ≡ length (span_text k x)
-  stated_size h e = e.0 ∙ ap length (sym (stated_text h))
 
   pub no_size : (k ≡ 2 → ⊥) → 0 ≡ length (span_text k x)
   no_size h = ap length (sym (no_text h))
@@ -97,60 +93,59 @@ module _ (f t k x : ℕ) where
           rw cells (meet_put at (cell (digits f) 44 ++ cell (digits t) 44) (cell (digits k) 44 ++ cell (span_text k x) 10) q b (rw cells at h) i j)
 
 -- ---- the text
--- the row that begins at word i, as code hands it on
-abbrev row_at : List ℕ → ℕ → TransferRow
-row_at w i = transfer_with (get_or w i 0) (get_or w (i + 1) 0) (get_or w (i + 2) 0) (get_or w (i + 3) 0)
-
 header_long : length transfers_header ≡ 56
 unfolding transfers_header line_with from_stop_id to_stop_id transfer_type min_transfer_time
 header_long = refl
 
-text_next : (w : List ℕ) (i : ℕ) → AtRow MOST_TRANSFERS w i → i < length w
-    → transfers_text (transfer_rows_in (drop i w)) ≡ transfer_text (row_at w i) ++ transfers_text (transfer_rows_in (drop (i + 4) w))
-unfolding transfer_rows_in transfers_text
-text_next w i a h = rw (rows_next transfer_with a h)
+module _ (w : List ℕ) {rows : List (List ℕ)} (cut : rows ≡ first_chunks 4 (length w / 4) w) (k : ℕ) where
+  text_next : k < length rows
+      → transfers_text (drop k (transfer_rows_in w)) ≡ transfer_text (row_by transfer_with (get_or rows k [])) ++ transfers_text (drop (k + 1) (transfer_rows_in w))
+  unfolding transfer_rows_in transfers_text
+  text_next h = rw (rows_next transfer_with w cut k h)
 
-text_none : (w : List ℕ) (i : ℕ) → length w ≤ i → transfers_text (transfer_rows_in (drop i w)) ≡ []
-unfolding transfer_rows_in transfers_text
-text_none w i h = rw (rows_none transfer_with w i h)
+  text_none : length rows ≤ k → transfers_text (drop k (transfer_rows_in w)) ≡ []
+  unfolding transfer_rows_in transfers_text
+  text_none h = rw (rows_none transfer_with w cut k h)
 
 -- ---- measured
-pub record Sizing (w : List ℕ) (n i : ℕ) : Type 0 where
-  pub small : n ≤ 56 + 11 * i
-  rest : n + length (transfers_text (transfer_rows_in (drop i w))) ≡ length (write_transfers (transfer_rows_in w))
+pub record Sizing (w : List ℕ) (n k : ℕ) : Type 0 where
+  pub small : n ≤ 56 + 44 * k
+  rest : n + length (transfers_text (drop k (transfer_rows_in w))) ≡ length (write_transfers (transfer_rows_in w))
 
 pub sizing_start : (w : List ℕ) → Sizing w 56 0
 unfolding write_transfers
 sizing_start w =
     record { small = omega arith; rest = omega (arith, header_long, length-append transfers_header (transfers_text (transfer_rows_in w))) }
 
-pub sizing_next : {w : List ℕ} {n i m : ℕ} → Sizing w n i → AtRow MOST_TRANSFERS w i → i < length w
-    → (m ≡ 4 + length (digits (get_or w i 0)) + length (digits (get_or w (i + 1) 0)) + length (digits (get_or w (i + 2) 0))
-    + length (span_text (get_or w (i + 2) 0) (get_or w (i + 3) 0)))
-    × (m ≤ 44)
-    → Sizing w (n + m) (i + 4)
-sizing_next {w} {n} {i} {m} s a h f =
-    let l = length-append (transfer_text (row_at w i)) (transfers_text (transfer_rows_in (drop (i + 4) w))) in
-    record {
-      small = omega (arith, s.small, f.1);
-      rest =
-          omega (
-            arith,
-            s.rest,
-            ap length (text_next w i a h),
-            l,
-            f.0,
-            transfer_long (get_or w i 0) (get_or w (i + 1) 0) (get_or w (i + 2) 0) (get_or w (i + 3) 0),
-          );
-    }
+module _ {w : List ℕ} {n k : ℕ} (s : Sizing w n k) {rows : List (List ℕ)} (cut : rows ≡ first_chunks 4 (length w / 4) w) where
+  pub sizing_next : {m : ℕ} → k < length rows
+      → (m ≡ 4 + length (digits (get_or (get_or rows k []) 0 0)) + length (digits (get_or (get_or rows k []) 1 0)) + length (digits (get_or (get_or rows k []) 2 0))
+      + length (span_text (get_or (get_or rows k []) 2 0) (get_or (get_or rows k []) 3 0)))
+      × (m ≤ 44)
+      → Sizing w (n + m) (k + 1)
+  sizing_next {m} h f =
+      let x = get_or rows k [] in
+      let l = length-append (transfer_text (row_by transfer_with x)) (transfers_text (drop (k + 1) (transfer_rows_in w))) in
+      record {
+        small = omega (arith, s.small, f.1);
+        rest =
+            omega (
+              arith,
+              s.rest,
+              ap length (text_next w cut k h),
+              l,
+              f.0,
+              transfer_long (get_or x 0 0) (get_or x 1 0) (get_or x 2 0) (get_or x 3 0),
+            );
+      }
 
-pub sizing_end : {w : List ℕ} {n i : ℕ} → Sizing w n i → length w ≤ i → n ≡ length (write_transfers (transfer_rows_in w))
-sizing_end {w} {n} {i} s h = omega (arith, s.rest, ap length (text_none w i h))
+  pub sizing_end : length rows ≤ k → n ≡ length (write_transfers (transfer_rows_in w))
+  sizing_end h = omega (arith, s.rest, ap length (text_none w cut k h))
 
 -- ---- written
-pub record Putting (w b₀ b : List ℕ) (at i : ℕ) : Type 0 where
+pub record Putting (w b₀ b : List ℕ) (at k : ℕ) : Type 0 where
   pub long : length b ≡ length b₀
-  filled : Filled (write_transfers (transfer_rows_in w)) b₀ b at (transfers_text (transfer_rows_in (drop i w)))
+  filled : Filled (write_transfers (transfer_rows_in w)) b₀ b at (transfers_text (drop k (transfer_rows_in w)))
 
 pub header_room : (w : List ℕ) {n : ℕ} → length (write_transfers (transfer_rows_in w)) ≤ n → 56 ≤ n
 unfolding write_transfers
@@ -165,22 +160,23 @@ putting_start w b {x} h f =
     filled_head transfers_header b (transfers_text (transfer_rows_in w)) (omega (arith, header_long)) h f in
     record { long = refl; filled = y }
 
-module _ {w b₀ b : List ℕ} {at i : ℕ} (s : Putting w b₀ b at i) where
-  pub putting_end : (b₁ : List ℕ) → length w ≤ i → b₀ ≡ with_bytes b₁ 0 transfers_header → b ≡ with_bytes b₁ 0 (write_transfers (transfer_rows_in w))
+module _ {w b₀ b : List ℕ} {at k : ℕ} (s : Putting w b₀ b at k) {rows : List (List ℕ)} (cut : rows ≡ first_chunks 4 (length w / 4) w) where
+  pub putting_end : (b₁ : List ℕ) → length rows ≤ k → b₀ ≡ with_bytes b₁ 0 transfers_header → b ≡ with_bytes b₁ 0 (write_transfers (transfer_rows_in w))
   unfolding write_transfers
   putting_end b₁ h f =
-      let y : Filled (write_transfers (transfer_rows_in w)) b₀ b at [] = rw (← text_none w i h) s.filled in
+      let y : Filled (write_transfers (transfer_rows_in w)) b₀ b at [] = rw (← text_none w cut k h) s.filled in
       filled_over transfers_header b₁ (transfers_text (transfer_rows_in w)) f (filled_end y)
 
-  module _ (a : AtRow MOST_TRANSFERS w i) (h : i < length w) where
-    next : Filled (write_transfers (transfer_rows_in w)) b₀ b at (transfer_text (row_at w i) ++ transfers_text (transfer_rows_in (drop (i + 4) w)))
-    next = rw (← text_next w i a h) s.filled
+  module _ (h : k < length rows) where
+    next : Filled (write_transfers (transfer_rows_in w)) b₀ b at
+        (transfer_text (row_by transfer_with (get_or rows k [])) ++ transfers_text (drop (k + 1) (transfer_rows_in w)))
+    next = rw (← text_next w cut k h) s.filled
 
-    pub putting_room : at + length (transfer_text (row_at w i)) ≤ length b
-    putting_room = filled_room (transfer_text (row_at w i)) (transfers_text (transfer_rows_in (drop (i + 4) w))) next
+    pub putting_room : at + length (transfer_text (row_by transfer_with (get_or rows k []))) ≤ length b
+    putting_room = filled_room (transfer_text (row_by transfer_with (get_or rows k []))) (transfers_text (drop (k + 1) (transfer_rows_in w))) next
 
-    pub putting_next : {x : List ℕ} {f : ℕ} → f ≡ at + length (transfer_text (row_at w i)) → x ≡ with_bytes b at (transfer_text (row_at w i))
-        → Putting w b₀ x f (i + 4)
-    putting_next g k =
-        let y = filled_next (transfer_text (row_at w i)) (transfers_text (transfer_rows_in (drop (i + 4) w))) next g k in
+    pub putting_next : {x : List ℕ} {f : ℕ} → f ≡ at + length (transfer_text (row_by transfer_with (get_or rows k [])))
+        → x ≡ with_bytes b at (transfer_text (row_by transfer_with (get_or rows k []))) → Putting w b₀ x f (k + 1)
+    putting_next g m =
+        let y = filled_next (transfer_text (row_by transfer_with (get_or rows k []))) (transfers_text (drop (k + 1) (transfer_rows_in w))) next g m in
         record { long = y.long; filled = y }

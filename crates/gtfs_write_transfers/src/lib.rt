@@ -2,7 +2,7 @@
 // measured, and only then is a byte written.
 #![tactic(auto)]
 
-ghost use Rattle.std.specs.Prelude.{◌≡◌, ◌++◌, ◌+◌, ◌≤◌, ◌<◌, length, get_or};
+ghost use Rattle.std.specs.Prelude.{◌≡◌, ◌++◌, ◌+◌, ◌≤◌, ◌<◌, length};
 ghost use Rattle.base.specs.Put.{with_bytes};
 ghost use Rattle.model.specs.Limits.{MOST_TRANSFERS};
 ghost use Rattle.numbers.specs.Decimal.{digits};
@@ -10,102 +10,91 @@ ghost use Rattle.feed.specs.Orderly.{fits_span, transfer_fault, after_transfer, 
 ghost use Rattle.feed.specs.Rows.{transfer_with, transfer_rows_in};
 ghost use Rattle.feed.specs.Writing.{span_text, transfer_text, write_transfers};
 ghost use Rattle.gtfs_write.specs.Written.{LIMITS, Whole, held_after, cell};
-ghost use Rattle.gtfs_write_transfers.specs.WrittenTransfers.{transfer_row_at, written_transfers};
+ghost use Rattle.gtfs_write.specs.Refusing.{fault_of, by_number};
+ghost use Rattle.gtfs_write_transfers.specs.WrittenTransfers.{written_transfers};
 
-use gtfs_write::Written;
+use gtfs_write::Unwritten;
 use repository::limits;
 
+// "columns in GTFS's order"
+const HEADER: &[u8] = b"from_stop_id,to_stop_id,transfer_type,min_transfer_time\n";
+
+// "an unstated span is MAX"
+const UNSTATED: u32 = 4_294_967_295;
+
 // "Only transfer_type 2 gives a stated span"; the types are 0 to 5.
-fn span_fits(k: u32, x: u32) -> bool
-    ensures { result ≡ fits_span k x }
+#[tactic(auto, unfolding(feed::specs::Orderly::fits_span))]
+fn span_fits(kind: u32, span: u32) -> bool
+    ensures { result ≡ fits_span kind span }
 {
-    if k == 2 {
-        return x < 4294967295;
+    if kind == 2 {
+        span < UNSTATED
+    } else {
+        kind <= 5 && span == UNSTATED
     }
-    if k <= 5 {
-        return x == 4294967295;
+}
+
+// How many stops have appeared after a row.
+#[tactic(auto, unfolding(feed::specs::Orderly::after_transfer, feed::specs::Rows::transfer_with))]
+fn after_transfer(stops: u32, from: u32, to: u32, kind: u32, span: u32) -> u32
+    requires from_bound { from < 4_294_967_295 }
+    requires to_bound { to < 4_294_967_295 }
+    ensures { result ≡ after_transfer stops (transfer_with from to kind span) }
+{
+    gtfs_write::seen_after(gtfs_write::seen_after(stops, from), to)
+}
+
+// What is wrong with a row when so many stops have appeared.
+#[tactic(auto, unfolding(feed::specs::Orderly::transfer_fault, feed::specs::Rows::transfer_with))]
+fn transfer_fault(stops: u32, from: u32, to: u32, kind: u32, span: u32) -> Result<(), Unwritten>
+    ensures { fault_of result ≡ transfer_fault LIMITS stops (transfer_with from to kind span) }
+{
+    if !gtfs_write::stop_fits(stops, from) {
+        return Err(Unwritten::Listing);
     }
-    false
-}
-
-// What is wrong with a row when so many stops have appeared: 2, 5, or 0 for nothing.
-fn transfer_fault(stops: u32, from: u32, to: u32, k: u32, x: u32) -> u32
-    ensures { result ≡ transfer_fault LIMITS stops (transfer_with from to k x) }
-{
-    let known = gtfs_write::stop_fits(stops, from);
-    if known {
-        let near = gtfs_write::seen_after(stops, from);
-        let named = gtfs_write::stop_fits(near, to);
-        if named {
-            let stated = span_fits(k, x);
-            if stated {
-                return 0;
-            }
-            return 5;
-        }
+    if !gtfs_write::stop_fits(gtfs_write::seen_after(stops, from), to) {
+        return Err(Unwritten::Listing);
     }
-    2
+    if !span_fits(kind, span) {
+        return Err(Unwritten::Transfers);
+    }
+    Ok(())
 }
 
-// The same of the row that begins at word i.
-fn row_fault(transfers: &[u32], i: usize, stops: u32) -> u32
-    requires { i + 4 ≤ length transfers.now }
-    ensures { result ≡ transfer_fault LIMITS stops (transfer_row_at transfers.now i) }
-{
-    transfer_fault(
-        stops,
-        transfers[i],
-        transfers[i + 1],
-        transfers[i + 2],
-        transfers[i + 3],
-    )
-}
-
-// How many stops have appeared after the row that begins at word i.
-fn row_after(transfers: &[u32], i: usize, stops: u32) -> u32
-    requires i_in_bounds { i + 4 ≤ length transfers.now }
-    requires i_bound { get_or transfers.now i 0 < 4_294_967_295 }
-    requires i_bound_2 { get_or transfers.now (i + 1) 0 < 4_294_967_295 }
-    ensures { result ≡ after_transfer stops (transfer_row_at transfers.now i) }
-{
-    let near = gtfs_write::seen_after(stops, transfers[i]);
-    gtfs_write::seen_after(near, transfers[i + 1])
-}
-
-// What is wrong with the first row that is at fault, or 0.
-fn transfers_fault(transfers: &[u32], stops: u32) -> u32
+// What is wrong with the first row that is at fault.
+fn transfers_fault(transfers: &[u32], stops: u32) -> Result<(), Unwritten>
     requires { Whole MOST_TRANSFERS transfers.now }
-    ensures { result ≡ transfers_fault LIMITS stops (transfer_rows_in transfers.now) }
+    ensures { fault_of result ≡ transfers_fault LIMITS stops (transfer_rows_in transfers.now) }
 {
     let mut seen = stops;
-    let mut i = 0;
-    while i < transfers.len() {
-        let k = row_fault(transfers, i, seen);
-        if 0 < k {
-            return k;
-        }
-        seen = row_after(transfers, i, seen);
-        i += 4;
+    let (rows, _) = transfers.as_chunks::<4>();
+    for &[from, to, kind, span] in rows {
+        transfer_fault(seen, from, to, kind, span)?;
+        seen = after_transfer(seen, from, to, kind, span);
     }
-    0
+    Ok(())
 }
 
 // How many bytes a span takes; one that is not stated takes none.
-fn span_size(k: u32, x: u32) -> usize
-    ensures { (result ≡ length (span_text k x)) × (result ≤ 10) }
+#[tactic(auto, unfolding(feed::specs::Writing::span_text))]
+fn span_size(kind: u32, span: u32) -> usize
+    ensures { (result ≡ length (span_text kind span)) × (result ≤ 10) }
 {
-    if k == 2 {
-        return numbers::decimal_size(x);
+    if kind == 2 {
+        numbers::decimal_size(span)
+    } else {
+        0
     }
-    0
 }
 
 // How many bytes a row takes: three commas, a line feed, three numbers and a span.
-fn transfer_size(from: u32, to: u32, k: u32, x: u32) -> usize
-    ensures { (result ≡ 4 + length (digits from) + length (digits to) + length (digits k) + length (span_text k x)) × (result ≤ 44) }
+fn transfer_size(from: u32, to: u32, kind: u32, span: u32) -> usize
+    ensures { (result
+        ≡ 4 + length (digits from) + length (digits to) + length (digits kind) + length (span_text kind span))
+        × (result ≤ 44) }
 {
     let stops = numbers::decimal_size(from) + numbers::decimal_size(to);
-    4 + stops + numbers::decimal_size(k) + span_size(k, x)
+    4 + stops + numbers::decimal_size(kind) + span_size(kind, span)
 }
 
 // How many bytes the file takes.
@@ -113,51 +102,46 @@ fn transfers_size(transfers: &[u32]) -> usize
     requires { Whole MOST_TRANSFERS transfers.now }
     ensures { result ≡ length (write_transfers (transfer_rows_in transfers.now)) }
 {
-    let mut n: usize = 56;
-    let mut i = 0;
-    while i < transfers.len() {
-        n += transfer_size(
-            transfers[i],
-            transfers[i + 1],
-            transfers[i + 2],
-            transfers[i + 3],
-        );
-        i += 4;
+    let mut size = HEADER.len();
+    let (rows, _) = transfers.as_chunks::<4>();
+    for &[from, to, kind, span] in rows {
+        size += transfer_size(from, to, kind, span);
     }
-    n
+    size
 }
 
 // Writes a span and a line feed, and says where they end.
-fn write_span(out: &mut [u8], at: usize, kind: u32, x: u32) -> usize
-    requires { at + length (cell (span_text kind x) 10) ≤ length out.old }
-    ensures value { result ≡ at + length (cell (span_text kind x) 10) }
-    ensures out_after { out.new ≡ with_bytes out.old at (cell (span_text kind x) 10) }
+fn write_span(out: &mut [u8], at: usize, kind: u32, span: u32) -> usize
+    requires { at + length (cell (span_text kind span) 10) ≤ length out.old }
+    ensures value { result ≡ at + length (cell (span_text kind span) 10) }
+    ensures out_after { out.new ≡ with_bytes out.old at (cell (span_text kind span) 10) }
 {
-    if kind == 2 {
-        return gtfs_write::write_cell(out, at, x, 10);
+    if kind != 2 {
+        out[at] = b'\n';
+        return at + 1;
     }
-    out[at] = 10;
-    at + 1
+    gtfs_write::write_cell(out, at, span, b'\n')
 }
 
 // Writes the type and the span, which end a row, and says where they end.
-fn write_kind(out: &mut [u8], at: usize, k: u32, x: u32) -> usize
-    requires { at + length (cell (digits k) 44 ++ cell (span_text k x) 10) ≤ length out.old }
-    ensures value { result ≡ at + length (cell (digits k) 44 ++ cell (span_text k x) 10) }
-    ensures out_after { out.new ≡ with_bytes out.old at (cell (digits k) 44 ++ cell (span_text k x) 10) }
+fn write_kind(out: &mut [u8], at: usize, kind: u32, span: u32) -> usize
+    requires { at + length (cell (digits kind) 44 ++ cell (span_text kind span) 10) ≤ length out.old }
+    ensures value { result ≡ at + length (cell (digits kind) 44 ++ cell (span_text kind span) 10) }
+    ensures out_after { out.new
+        ≡ with_bytes out.old at (cell (digits kind) 44 ++ cell (span_text kind span) 10) }
 {
-    let e = gtfs_write::write_cell(out, at, k, 44);
-    write_span(out, e, k, x)
+    let e = gtfs_write::write_cell(out, at, kind, b',');
+    write_span(out, e, kind, span)
 }
 
 // Writes a row, and says where it ends.
-fn write_transfer(out: &mut [u8], at: usize, from: u32, to: u32, k: u32, x: u32) -> usize
-    requires { at + length (transfer_text (transfer_with from to k x)) ≤ length out.old }
-    ensures value { result ≡ at + length (transfer_text (transfer_with from to k x)) }
-    ensures out_after { out.new ≡ with_bytes out.old at (transfer_text (transfer_with from to k x)) }
+fn write_transfer(out: &mut [u8], at: usize, from: u32, to: u32, kind: u32, span: u32) -> usize
+    requires { at + length (transfer_text (transfer_with from to kind span)) ≤ length out.old }
+    ensures value { result ≡ at + length (transfer_text (transfer_with from to kind span)) }
+    ensures out_after { out.new ≡ with_bytes out.old at (transfer_text (transfer_with from to kind span)) }
 {
-    let e = gtfs_write::write_pair(out, at, from, to, 44);
-    write_kind(out, e, k, x)
+    let e = gtfs_write::write_pair(out, at, from, to, b',');
+    write_kind(out, e, kind, span)
 }
 
 // Writes the header and every row.
@@ -166,43 +150,28 @@ fn put_transfers(transfers: &[u32], out: &mut [u8])
     requires transfers_in_bounds { length (write_transfers (transfer_rows_in transfers.now)) ≤ length out.old }
     ensures { out.new ≡ with_bytes out.old 0 (write_transfers (transfer_rows_in transfers.now)) }
 {
-    gtfs_write::write_text(
-        out,
-        b"from_stop_id,to_stop_id,transfer_type,min_transfer_time\n",
-    );
-    let mut at: usize = 56;
-    let mut i = 0;
-    while i < transfers.len() {
-        at = write_transfer(
-            out,
-            at,
-            transfers[i],
-            transfers[i + 1],
-            transfers[i + 2],
-            transfers[i + 3],
-        );
-        i += 4;
+    gtfs_write::write_text(out, HEADER);
+    let mut at = HEADER.len();
+    let (rows, _) = transfers.as_chunks::<4>();
+    for &[from, to, kind, span] in rows {
+        at = write_transfer(out, at, from, to, kind, span);
     }
 }
 
 // Writes the rows that stand in the words, four words each: from, to, type, span. `stops` is how many stops the stop times have
 // named. Takes any words. Where it refuses, nothing is written.
-pub fn write_transfers(transfers: &[u32], stops: u32, out: &mut [u8]) -> Written
-    ensures value { result ≡ written_transfers transfers.now stops (length out.old) }
+pub fn write_transfers(transfers: &[u32], stops: u32, out: &mut [u8]) -> Result<usize, Unwritten>
+    ensures value { by_number result ≡ written_transfers transfers.now stops (length out.old) }
     ensures out_after { out.new ≡ held_after result out.old (write_transfers (transfer_rows_in transfers.now)) }
 {
-    let whole = gtfs_write::whole_rows(transfers, limits::MOST_TRANSFERS);
-    if whole {
-        let k = transfers_fault(transfers, stops);
-        if 0 < k {
-            return Written::Refused(k);
-        }
-        let n = transfers_size(transfers);
-        if out.len() < n {
-            return Written::Refused(15);
-        }
-        put_transfers(transfers, out);
-        return Written::Bytes(n);
+    if !gtfs_write::whole_rows(transfers, limits::MOST_TRANSFERS) {
+        return Err(Unwritten::Shape);
     }
-    Written::Refused(1)
+    transfers_fault(transfers, stops)?;
+    let size = transfers_size(transfers);
+    if out.len() < size {
+        return Err(Unwritten::Full);
+    }
+    put_transfers(transfers, out);
+    Ok(size)
 }

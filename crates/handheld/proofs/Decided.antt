@@ -21,8 +21,7 @@ use Rattle.model.specs.Answer.{may_walk}
 use Rattle.model.specs.Journey.{Allowed}
 use Rattle.model.specs.Sound.{Sound}
 use Rattle.handheld.specs.declared.Led.{Led}
-use Rattle.handheld.specs.declared.Onward.{Onward}
-use Rattle.handheld.specs.declared.Onward.TheVariants.{To, Wrong}
+use Rattle.std.specs.Prelude.{Option, None, Some}
 use Rattle.handheld.specs.Right.{Joined, done, by_ride, by_path, is_ride, begins_with_ride, ends_with_ride, RideInPlace, InTime, Right}
 use Rattle.handheld.specs.Verdict.{is_listed, follow, may_begin, may_end, at_start, comes_in, verdict}
 use Rattle.handheld.proofs.Any.{any_at, any_is}
@@ -67,7 +66,7 @@ module _ (n : Net) (walking : Bool) where
 
   -- legs that are joined start at the first leg's stop
   joined_from : {s x u y k : ℕ} {gs : List Leg} → Joined n walking s x u y k gs → (g : Leg) (hs : List Leg) → gs ≡ g ∷ hs → g.from ≡ s
-  joined_from done g hs e = let z : ◌≡◌ {A = ℕ} 0 1 = cc in absurd (omega arith)
+  joined_from done g hs e = cc
   joined_from (by_ride h d a b c) g hs e = let q : g ≡ h = cc in ap (λ (l : Leg). l.from) q ∙ a
   joined_from (by_path h w a b c) g hs e = let q : g ≡ h = cc in ap (λ (l : Leg). l.from) q ∙ a
 
@@ -95,16 +94,16 @@ end_complete (Departure t) g gs f h i r = refl
 end_complete (Arrival t) g gs f h i r = both (r ∙ h) (le-leb _ _ i)
 
 -- where the legs come in
-come_sound : (n : Net) (q : Query) (o : Onward) → comes_in n q o ≡ true
-    → (f : Led) × (o ≡ To f) × (may_end q.time f ≡ true) × Memᴰ f.stop (place_stops n q.to)
+come_sound : (n : Net) (q : Query) (o : Option Led) → comes_in n q o ≡ true
+    → (f : Led) × (o ≡ Some f) × (may_end q.time f ≡ true) × Memᴰ f.stop (place_stops n q.to)
 unfolding comes_in
-come_sound n q Wrong e = false_is e
-come_sound n q (To f) e =
+come_sound n q None e = false_is e
+come_sound n q (Some f) e =
     let a = may_end q.time f in
     let b = is_listed f.stop (place_stops n q.to) in
     (f, refl, and_left a b e, listed_mem f.stop (place_stops n q.to) (and_right a b e))
 
-come_complete : (n : Net) (q : Query) (o : Onward) (f : Led) → o ≡ To f → may_end q.time f ≡ true
+come_complete : (n : Net) (q : Query) (o : Option Led) (f : Led) → o ≡ Some f → may_end q.time f ≡ true
     → Memᴰ f.stop (place_stops n q.to) → comes_in n q o ≡ true
 unfolding comes_in
 come_complete n q o f e a m = rw e (both a (mem_listed m))

@@ -17,40 +17,37 @@ use Rattle.model.specs.Limits.{MOST_ROUNDS}
 use Rattle.model.specs.Journey.{Allowed}
 use Rattle.model.specs.Sound.{Sound}
 use Rattle.handheld.specs.declared.Led.{Led}
-use Rattle.handheld.specs.declared.Onward.TheVariants.{To, Wrong}
+use Rattle.std.specs.Prelude.{None, Some}
 use Rattle.handheld.specs.Right.{Joined, done, by_ride, by_path, ends_with_ride}
 use Rattle.handheld.specs.Fitting.{fits_ride, fits_leg}
 use Rattle.handheld.specs.Verdict.{rides_with, follows, led, leg_on, follow}
 use Rattle.handheld.proofs.Legs.{both, ride_sound, ride_complete, walk_sound, walk_complete}
 
-wrong_to : {C : Type 0} {f : Led} → Wrong ≡ To f → C
-wrong_to e = let z : ◌≡◌ {A = ℕ} 0 1 = cc in absurd (omega arith)
-
 module _ (n : Net) (walking : Bool) where
   -- ---- one leg
-  onward_to : (g : Leg) (e : Led) → follows n walking g e ≡ true → leg_on n walking g e ≡ To (led g e)
+  onward_to : (g : Leg) (e : Led) → follows n walking g e ≡ true → leg_on n walking g e ≡ Some (led g e)
   unfolding leg_on
   onward_to g e t = rw t
 
-  onward_wrong : (g : Leg) (e : Led) → follows n walking g e ≡ false → leg_on n walking g e ≡ Wrong
+  onward_wrong : (g : Leg) (e : Led) → follows n walking g e ≡ false → leg_on n walking g e ≡ None
   unfolding leg_on
   onward_wrong g e t = rw t
 
-  pub follow_to : (g : Leg) (gs : List Leg) (e f : Led) → leg_on n walking g e ≡ To f → follow n walking (g ∷ gs) e ≡ follow n walking gs f
+  pub follow_to : (g : Leg) (gs : List Leg) (e f : Led) → leg_on n walking g e ≡ Some f → follow n walking (g ∷ gs) e ≡ follow n walking gs f
   unfolding follow
   follow_to g gs e f t = rw (t, follow)
 
-  pub follow_wrong : (g : Leg) (gs : List Leg) (e : Led) → leg_on n walking g e ≡ Wrong → follow n walking (g ∷ gs) e ≡ Wrong
+  pub follow_wrong : (g : Leg) (gs : List Leg) (e : Led) → leg_on n walking g e ≡ None → follow n walking (g ∷ gs) e ≡ None
   unfolding follow
   follow_wrong g gs e t = rw (t, follow)
 
   -- legs that can be followed: so can the first, and then the others
-  pub follow_first : (g : Leg) (gs : List Leg) (e f : Led) → follow n walking (g ∷ gs) e ≡ To f
-      → (follows n walking g e ≡ true) × (follow n walking gs (led g e) ≡ To f)
+  pub follow_first : (g : Leg) (gs : List Leg) (e f : Led) → follow n walking (g ∷ gs) e ≡ Some f
+      → (follows n walking g e ≡ true) × (follow n walking gs (led g e) ≡ Some f)
   follow_first g gs e f h =
       split (follows n walking g e)
       (λ t. (t, sym (follow_to g gs e (led g e) (onward_to g e t)) ∙ h))
-      (λ t. wrong_to (sym (follow_wrong g gs e (onward_wrong g e t)) ∙ h))
+      (λ t. let z = sym (follow_wrong g gs e (onward_wrong g e t)) ∙ h in cc)
 
   -- ---- what is followed is joined
   most_rides : (g : Leg) (e : Led) → follows n walking g e ≡ true → rides_with g.kind e.rides ≤ MOST_ROUNDS
@@ -62,16 +59,16 @@ module _ (n : Net) (walking : Bool) where
       let d = fits_leg n walking g.kind g in
       leb-true _ _ (and_left c d (and_right b (c && d) (and_right a (b && (c && d)) t)))
 
-  pub onward_few : (g : Leg) (e f : Led) → leg_on n walking g e ≡ To f → f.rides ≤ MOST_ROUNDS
+  pub onward_few : (g : Leg) (e f : Led) → leg_on n walking g e ≡ Some f → f.rides ≤ MOST_ROUNDS
   unfolding led
   onward_few g e f h =
       split (follows n walking g e)
       (λ t.
       let q : led g e ≡ f = same (sym (onward_to g e t) ∙ h) in
       subst (λ (x : Led). x.rides ≤ MOST_ROUNDS) q (most_rides g e t))
-      (λ t. wrong_to (sym (onward_wrong g e t) ∙ h))
+      (λ t. let z = sym (onward_wrong g e t) ∙ h in cc)
     where
-      same : {x y : Led} → To x ≡ To y → x ≡ y
+      same : {x y : Led} → Some x ≡ Some y → x ≡ y
       same e = cc
 
   joined_on : (g : Leg) (gs : List Leg) (e : Led) {u y k : ℕ} → follows n walking g e ≡ true
@@ -93,13 +90,13 @@ module _ (n : Net) (walking : Bool) where
       go Transfer q a b fit = (k, refl, by_path g (walk_sound n walking g Transfer q (λ v z. other z) fit) a b rest)
         where
           other : {v : ℕ} → Transfer ≡ Transit v → ⊥
-          other z = let y : ◌≡◌ {A = ℕ} 0 1 = cc in omega arith
+          other z = cc
       go Walk q a b fit = (k, refl, by_path g (walk_sound n walking g Walk q (λ v z. other z) fit) a b rest)
         where
           other : {v : ℕ} → Walk ≡ Transit v → ⊥
-          other z = let y : ◌≡◌ {A = ℕ} 0 1 = cc in omega arith
+          other z = cc
 
-  pub follow_sound : (gs : List Leg) (e f : Led) → e.rides ≤ MOST_ROUNDS → follow n walking gs e ≡ To f
+  pub follow_sound : (gs : List Leg) (e f : Led) → e.rides ≤ MOST_ROUNDS → follow n walking gs e ≡ Some f
       → (j : ℕ) × (f.rides ≡ e.rides + j) × (f.rides ≤ MOST_ROUNDS)
       × Joined n walking e.stop e.moment f.stop f.moment j gs
   unfolding follow led
@@ -114,14 +111,14 @@ module _ (n : Net) (walking : Bool) where
       (on.0, later.1 ∙ on.1, later.2, on.2)
 
   -- whether the last leg was a ride
-  pub follow_ends : (g : Leg) (gs : List Leg) (e f : Led) → follow n walking (g ∷ gs) e ≡ To f → f.rode ≡ ends_with_ride (g ∷ gs)
+  pub follow_ends : (g : Leg) (gs : List Leg) (e f : Led) → follow n walking (g ∷ gs) e ≡ Some f → f.rode ≡ ends_with_ride (g ∷ gs)
   unfolding follow led ends_with_ride
   follow_ends g [] e f h =
       let t = follow_first g [] e f h in
       let q : led g e ≡ f = same t.1 in
       ap (λ (x : Led). x.rode) (sym q)
     where
-      same : {x y : Led} → To x ≡ To y → x ≡ y
+      same : {x y : Led} → Some x ≡ Some y → x ≡ y
       same e = cc
   follow_ends g (h ∷ hs) e f p = follow_ends h hs (led g e) f (follow_first g (h ∷ hs) e f p).1
 
@@ -134,7 +131,7 @@ module _ (n : Net) (walking : Bool) where
 
     pub follow_complete : {s x u y j : ℕ} {gs : List Leg} → Joined n walking s x u y j gs → s < n.stops → (e : Led) → e.stop ≡ s
         → e.moment ≡ x → e.rides + j ≤ MOST_ROUNDS
-        → (f : Led) × (follow n walking gs e ≡ To f) × (f.stop ≡ u) × (f.moment ≡ y)
+        → (f : Led) × (follow n walking gs e ≡ Some f) × (f.stop ≡ u) × (f.moment ≡ y)
     unfolding follow led rides_with fits_leg
     follow_complete done i e es ex l = (e, refl, es, ex)
     follow_complete (by_ride {k = j} {gs = gs} g d a b c) i e es ex l =

@@ -17,7 +17,7 @@
 use Prim.Native.Nat.{ℕ, zero, suc}
 use mathlib.Core.Path.{refl}
 use mathlib.Core.Bool.{true, false}
-use mathlib.Core.Option.{none, some}
+use Rattle.std.specs.Prelude.{None, Some, Ok, Err}
 use mathlib.Core.List.{List, [], ◌∷◌, ◌++◌}
 use Rattle.model.specs.declared.Leg.{Leg}
 use Rattle.model.specs.declared.Location.TheVariants.{Stop, Area}
@@ -32,7 +32,8 @@ use Rattle.model.specs.Answer.{may_walk, moment_of, refusal, lowest, unless}
 use Rattle.model.proofs.Examples.{net, N, N⁺, ask, departing, arriving}
 use Rattle.model.proofs.Networks.{one, foot, of_routes, X1, X5, X9b, X12, X18, W}
 use Rattle.model.proofs.Worked.{◌is◌, Hold, ride, transfer, walk, leaving, coming}
-use Rattle.handheld.specs.declared.Verdict.TheVariants.{Yes, No, Bad, Refused}
+use Rattle.model.specs.declared.Refusal.TheVariants.{Times, Place, Moment, Barren}
+use Rattle.handheld.specs.declared.NoVerdict.TheVariants.{Bad, Refused}
 use Rattle.handheld.specs.Any.{any}
 use Rattle.handheld.specs.Right.{is_ride, soonest}
 use Rattle.handheld.specs.Fitting.{leaves_at, comes_at, comes_from, fits_from, fits_trip, stands_at, fits_route, fits_ride, fits_foot, fits_path, fits_leg}
@@ -67,7 +68,7 @@ station = net (record {
   routes = one (0 ∷ 1 ∷ []) ((10, 10) ∷ (20, 20) ∷ []) ∷ [];
   transfers = [] ∷ (foot 2 5 ∷ []) ∷ [];
   walks = [];
-  stations = none ∷ some 3 ∷ some 3 ∷ [];
+  stations = None ∷ Some 3 ∷ Some 3 ∷ [];
   areas = (3 ∷ []) ∷ [];
 })
 
@@ -147,19 +148,19 @@ pub verdicts :
     ∷ [])
     × Hold (
     -- D1: yes, no, and the offset of the bad leg, also behind a leg that is wrong
-    judged 0 N (departing Source 0 4 50) (write N1) is Yes
-    ∷ judged 0 N (departing Source 0 4 101) (write N1) is No
-    ∷ judged 0 N (departing Source 0 4 50) [] is No
-    ∷ judged 0 N (departing Source 0 4 50) (write N1 ++ (9 ∷ [])) is Bad 59
-    ∷ judged 0 N (departing Source 0 4 101) (write N1 ++ (1 ∷ 0 ∷ [])) is Bad 59
+    judged 0 N (departing Source 0 4 50) (write N1) is Ok true
+    ∷ judged 0 N (departing Source 0 4 101) (write N1) is Ok false
+    ∷ judged 0 N (departing Source 0 4 50) [] is Ok false
+    ∷ judged 0 N (departing Source 0 4 50) (write N1 ++ (9 ∷ [])) is Err (Bad (record { at = 59 }))
+    ∷ judged 0 N (departing Source 0 4 101) (write N1 ++ (1 ∷ 0 ∷ [])) is Err (Bad (record { at = 59 }))
     -- D2: 7, 8 and 9 before 13, in their order
-    ∷ judged 0 N (departing Source 0 5 50) (9 ∷ []) is Refused 7
-    ∷ judged 0 N (departing Source 5 4 0) (write N1) is Refused 7
-    ∷ judged 0 N (departing Source 0 4 0) (9 ∷ []) is Refused 8
-    ∷ judged 0 N (departing Source 0 4 1_000_001) (write N1) is Refused 8
-    ∷ judged 0 X9b (leaving (Area 1) (Stop 1) 1) (9 ∷ []) is Refused 9
+    ∷ judged 0 N (departing Source 0 5 50) (9 ∷ []) is Err (Refused Place)
+    ∷ judged 0 N (departing Source 5 4 0) (write N1) is Err (Refused Place)
+    ∷ judged 0 N (departing Source 0 4 0) (9 ∷ []) is Err (Refused Moment)
+    ∷ judged 0 N (departing Source 0 4 1_000_001) (write N1) is Err (Refused Moment)
+    ∷ judged 0 X9b (leaving (Area 1) (Stop 1) 1) (9 ∷ []) is Err (Refused Barren)
     -- D3: the tables' own number before all of them
-    ∷ judged 3 N (departing Source 0 5 0) (9 ∷ []) is Refused 3
+    ∷ judged 3 N (departing Source 0 5 0) (9 ∷ []) is Err (Refused Times)
     ∷ [])
 unfolding departing arriving leaving coming ask N N⁺ X1 X5 X9b X12 X18 W standstill station N1 rides_to_2 ride transfer walk shuttle any is_ride soonest leaves_at comes_at comes_from fits_from fits_trip stands_at fits_route fits_ride fits_foot fits_path fits_leg is_listed rides_with follows led leg_on follow may_begin may_end at_start comes_in verdict judged_as judged upto gather exists or_itself stops_of_stop served_of stops_of_area place_stops unserved barren u32 kind_byte trip_field write_leg write read read_from first_leg uncut leg_of_body leg_at u32_at before leg_size may_walk moment_of refusal lowest unless
 verdicts = (refl, refl)

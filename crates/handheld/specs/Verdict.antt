@@ -1,5 +1,5 @@
 -- How it is decided whether legs are right: leg by leg, in riding order.
-use Rattle.std.specs.Prelude.{ℕ, suc, Bool, true, false, cond, ◌&&◌, List, [], ◌∷◌, leb, eqb}
+use Rattle.std.specs.Prelude.{ℕ, suc, Bool, true, false, cond, ◌&&◌, Option, None, Some, List, [], ◌∷◌, leb, eqb}
 use Rattle.model.specs.declared.Leg.{Leg}
 use Rattle.model.specs.declared.LegType.{LegType}
 use Rattle.model.specs.declared.LegType.TheVariants.{Transit, Transfer, Walk}
@@ -11,8 +11,6 @@ use Rattle.model.specs.Limits.{MOST_ROUNDS}
 use Rattle.model.specs.Places.{place_stops}
 use Rattle.model.specs.Answer.{may_walk}
 use Rattle.handheld.specs.declared.Led.{Led}
-use Rattle.handheld.specs.declared.Onward.{Onward}
-use Rattle.handheld.specs.declared.Onward.TheVariants.{To, Wrong}
 use Rattle.handheld.specs.Any.{any}
 use Rattle.handheld.specs.Right.{is_ride, soonest}
 use Rattle.handheld.specs.Fitting.{fits_leg}
@@ -37,13 +35,14 @@ follows n walking g e =
 unfoldable pub led : Leg → Led → Led
 led g e = record { stop = g.to; moment = g.arrival.0; rides = rides_with g.kind e.rides; rode = is_ride g.kind }
 
-unfoldable pub leg_on : Net → Bool → Leg → Led → Onward
-leg_on n walking g e = cond (follows n walking g e) (To (led g e)) Wrong
+-- where it leads, if it may follow
+unfoldable pub leg_on : Net → Bool → Leg → Led → Option Led
+leg_on n walking g e = cond (follows n walking g e) (Some (led g e)) None
 
--- where all of them lead
-unfoldable pub follow : Net → Bool → List Leg → Led → Onward
-follow n walking [] e = To e
-follow n walking (g ∷ gs) e = elim (leg_on n walking g e) [ To f ↦ follow n walking gs f | Wrong ↦ Wrong ]
+-- where all of them lead, if each may follow
+unfoldable pub follow : Net → Bool → List Leg → Led → Option Led
+follow n walking [] e = Some e
+follow n walking (g ∷ gs) e = elim (leg_on n walking g e) [ Some f ↦ follow n walking gs f | None ↦ None ]
 
 -- "Departure journeys begin with a ride, arrival journeys end with one", and end by the moment that was asked
 unfoldable pub may_begin : TimeConstraint → Leg → Bool
@@ -59,9 +58,9 @@ unfoldable pub at_start : Query → Leg → Led
 at_start q g = record { stop = g.from; moment = soonest q.time; rides = 0; rode = false }
 
 -- the legs lead to a destination, and may end there
-unfoldable pub comes_in : Net → Query → Onward → Bool
-comes_in n q Wrong = false
-comes_in n q (To e) = may_end q.time e && is_listed e.stop (place_stops n q.to)
+unfoldable pub comes_in : Net → Query → Option Led → Bool
+comes_in n q None = false
+comes_in n q (Some e) = may_end q.time e && is_listed e.stop (place_stops n q.to)
 
 unfoldable pub verdict : Net → Query → List Leg → Bool
 verdict n q [] = false

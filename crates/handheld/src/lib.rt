@@ -2,17 +2,42 @@
 // specs/, what is promised of it in proofs/; the code that decides it is in `judge`.
 #![tactic(auto)]
 
-// What the depot is told. `verdict_number` of specs/Judged.antt has the number of each case.
+ghost use Rattle.std.specs.Prelude.{◌≡◌};
+
+use journey::BadLeg;
+use model::Refusal;
+
+// What the depot is told: whether the legs form a journey that the query asks for. `verdict_number` of specs/Judged.antt has the number of
+// each case; a yes and a no are both 0.
+pub type Verdict = Result<bool, NoVerdict>;
+
+// Why there is neither a yes nor a no.
 #[derive(Clone, Copy)]
-pub enum Verdict {
-    // 0: the legs form a journey that the query asks for
-    Yes,
-    // 0: they do not
-    No,
-    // 13: the bytes are no legs; the offset of the bad leg's first byte
-    Bad(usize),
+pub enum NoVerdict {
+    // 13: the bytes are no legs
+    Bad(BadLeg),
     // 1 to 5, 7, 8, 9
-    Refused(u32),
+    Refused(Refusal),
+}
+
+impl From<BadLeg> for NoVerdict {
+    ghost use Rattle.handheld.specs.declared.NoVerdict.TheVariants.{Bad};
+
+    ghost from_gives = { λ b v. v ≡ Bad b };
+
+    fn from(b: BadLeg) -> NoVerdict {
+        NoVerdict::Bad(b)
+    }
+}
+
+impl From<Refusal> for NoVerdict {
+    ghost use Rattle.handheld.specs.declared.NoVerdict.TheVariants.{Refused};
+
+    ghost from_gives = { λ r v. v ≡ Refused r };
+
+    fn from(r: Refusal) -> NoVerdict {
+        NoVerdict::Refused(r)
+    }
 }
 
 // Where legs have led: at which stop one is since when, with how many rides, and whether the last leg was one.
@@ -22,11 +47,4 @@ pub struct Led {
     pub moment: u32,
     pub rides: u32,
     pub rode: bool,
-}
-
-// One leg on, or more of them: where they lead, or that one of them is wrong.
-#[derive(Clone, Copy)]
-pub enum Onward {
-    To(Led),
-    Wrong,
 }

@@ -1,65 +1,44 @@
 // The bytes of an input, which the programs that read standard input share.
 #![tactic(auto)]
 
-ghost use Rattle.std.specs.Prelude.{◌≤◌, length};
+ghost use Rattle.std.specs.Prelude.{◌≤◌, length, IfOk, MatchResult};
 
+use std::io;
 use std::io::Read;
 
-// How many bytes the input has, as far as the buffer goes; or that reading it failed.
-#[derive(Clone, Copy)]
-pub enum Input {
-    Bytes(usize),
-    Failed,
-}
-
-// How many bytes were read, and whether a read failed behind them.
-#[derive(Clone, Copy)]
-struct Filled {
+// A read that failed, and how many bytes had been read before it.
+#[derive(Drop)]
+struct Cut {
     count: usize,
-    failed: bool,
+    error: io::Error,
 }
 
-// Reads until the input ends, the buffer is full or a read fails.
-fn fill(from: &mut impl Read, bytes: &mut [u8]) -> Filled
-    ensures { result.count ≤ length bytes.new }
+// Reads until the input ends, the buffer is full or a read fails: how many bytes were read.
+fn fill(from: &mut impl Read, bytes: &mut [u8]) -> Result<usize, Cut>
+    ensures { MatchResult result (λ n. n ≤ length bytes.new) (λ cut. cut.count ≤ length bytes.new) }
 {
-    let mut n = 0;
-    while n < bytes.len() {
-        match from.read(&mut bytes[n..]) {
-            Ok(0) => {
-                return Filled {
-                    count: n,
-                    failed: false,
-                };
-            }
-            Ok(more) => n += more,
-            Err(_) => {
-                return Filled {
-                    count: n,
-                    failed: true,
-                };
-            }
+    let mut count = 0;
+    // Stays a while: it goes on by what a read gives.
+    while count < bytes.len() {
+        match from.read(&mut bytes[count..]) {
+            Ok(0) => break,
+            Ok(more) => count += more,
+            Err(error) => return Err(Cut { count, error }),
         }
     }
-    Filled {
-        count: n,
-        failed: false,
-    }
+    Ok(count)
 }
 
-// Reads until the input ends, the buffer is full or a read fails.
-pub fn read_input(from: &mut impl Read, bytes: &mut [u8]) -> Input {
-    let filled = fill(from, bytes);
-    if filled.failed {
-        return Input::Failed;
-    }
-    Input::Bytes(filled.count)
+// Reads until the input ends, the buffer is full or a read fails: how many bytes were read.
+pub fn read_input(from: &mut impl Read, bytes: &mut [u8]) -> io::Result<usize>
+    ensures { IfOk result (λ n. n ≤ length bytes.new) }
+{
+    fill(from, bytes).map_err(|cut| cut.error)
 }
 
-// The same where a read that fails is the input's end: how many bytes were read.
+// The same where a read that fails is the input's end.
 pub fn read_full(from: &mut impl Read, bytes: &mut [u8]) -> usize
     ensures { result ≤ length bytes.new }
 {
-    let filled = fill(from, bytes);
-    filled.count
+    fill(from, bytes).unwrap_or_else(|cut| cut.count)
 }

@@ -1,27 +1,23 @@
 -- The legs that `read_leg` gives, one behind the other, are those that the bytes are read as.
 -- Assumes nothing.
-use mathlib.Core.Path.{◌≡◌, refl, sym, ap, ◌∙◌, subst}
-use mathlib.Core.List.{List, []}
-use Prim.Native.Nat.{ℕ, zero, suc, ◌+◌, ◌-◌, ◌≤◌}
-use native.Mathlib.Omega.{arith}
-use lib.ListN.{length, drop, length-drop, drop_of_length-le}
+use Rattle.std.proofs.Common.{◌≡◌, ℕ, suc, ◌+◌, ◌-◌, ◌≤◌, List, [], length, drop, refl, sym, ap, ◌∙◌, arith, length-drop}
+use Rattle.std.proofs.Common.{Option, Result, None, Some, Ok, Err}
+use mathlib.Core.Path.{subst}
+use Prim.Native.Nat.{zero}
+use lib.ListN.{drop_of_length-le}
 use lib.Seq.{drop-drop}
 use Rattle.model.specs.declared.Leg.{Leg}
 use Rattle.model.specs.Bytes.{Read, legs, bad, before, leg_size, read_from, read}
 use Rattle.model.proofs.ReadBack.{read_end, read_stop, read_on}
-use Rattle.journey.specs.declared.LegRead.{LegRead}
-use Rattle.journey.specs.declared.LegRead.TheVariants.{Whole, Bad as NoLeg, End}
+use Rattle.journey.specs.declared.BadLeg.{BadLeg}
 use Rattle.journey.specs.Reading.{leg_from}
 use Rattle.journey.specs.Legs.{LegsFrom, over, next}
 use Rattle.journey.proofs.Written.{least_size}
-use Rattle.journey.proofs.First.{past_end}
+use Rattle.journey.proofs.First.{none_left}
 use Rattle.journey.proofs.Told.{told_whole, told_bad, told_end, next_fits}
 
 legs_same : {gs hs : List Leg} → legs gs ≡ legs hs → gs ≡ hs
 legs_same e = cc
-
-bad_legs : {o : ℕ} {gs : List Leg} → bad o ≡ legs gs → ⊥
-bad_legs e = let z : ◌≡◌ {A = ℕ} 0 1 = cc in omega arith
 
 -- one turn, where the turns after it are known
 turn : (i at : ℕ) (b : List ℕ) (gs : List Leg) → at ≤ length b → length b - at ≤ suc i → read_from (suc i) at (drop at b) ≡ legs gs
@@ -29,33 +25,34 @@ turn : (i at : ℕ) (b : List ℕ) (gs : List Leg) → at ≤ length b → lengt
 unfolding before
 turn i at b gs h l e after = go (leg_from b at) refl
   where
-    rest : (g : Leg) → leg_from b at ≡ Whole g → (r : Read) → read_from i (at + leg_size g.kind) (drop (at + leg_size g.kind) b) ≡ r
+    rest : (g : Leg) → leg_from b at ≡ Some (Ok g) → (r : Read) → read_from i (at + leg_size g.kind) (drop (at + leg_size g.kind) b) ≡ r
         → before g r ≡ legs gs → LegsFrom b at gs
     rest g w (legs hs) q p =
-        let n = next_fits b at refl w refl in
+        let n = next_fits b at refl w refl refl in
         let m = least_size g.kind in
         subst (LegsFrom b at) (legs_same p) (next g w (after (at + leg_size g.kind) hs (omega arith) (omega arith) q))
-    rest g w (bad o) q p = absurd (bad_legs p)
+    rest g w (bad o) q p = cc
 
-    go : (r : LegRead) → leg_from b at ≡ r → LegsFrom b at gs
-    go (Whole g) w =
+    go : (r : Option (Result Leg BadLeg)) → leg_from b at ≡ r → LegsFrom b at gs
+    go (Some (Ok g)) w =
         let step : read_from (suc i) at (drop at b) ≡ before g (read_from i (at + leg_size g.kind) (drop (leg_size g.kind) (drop at b))) =
-        read_on i at (drop at b) (told_whole b at refl w) in
+        read_on i at (drop at b) (told_whole b at refl w refl) in
         let there : drop (leg_size g.kind) (drop at b) ≡ drop (at + leg_size g.kind) b = drop-drop (leg_size g.kind) at b in
         let all : before g (read_from i (at + leg_size g.kind) (drop (at + leg_size g.kind) b)) ≡ legs gs =
         ap (λ (x : List ℕ). before g (read_from i (at + leg_size g.kind) x)) (sym there) ∙ sym step ∙ e in
         rest g w (read_from i (at + leg_size g.kind) (drop (at + leg_size g.kind) b)) refl all
-    go NoLeg w =
-        let t = told_bad b at refl w in
+    go (Some (Err v)) w =
+        let t = told_bad b at refl w refl in
         let n = length-drop at b in
-        absurd (bad_legs (sym (read_stop (suc i) at (drop at b) (omega arith) (omega arith) t.1) ∙ e))
-    go End w =
+        let stop = read_stop (suc i) at (drop at b) (omega arith) (omega arith) t.1 in
+        cc
+    go None w =
         let d : drop at b ≡ [] = drop_of_length-le b (told_end b at refl w) in
         subst (LegsFrom b at) (legs_same (sym (ap (read_from (suc i) at) d ∙ read_end (suc i) at) ∙ e)) (over w)
 
 from : (f at : ℕ) (b : List ℕ) (gs : List Leg) → at ≤ length b → length b - at ≤ f → read_from f at (drop at b) ≡ legs gs → LegsFrom b at gs
 unfolding read_from
-from zero at b gs h l e = subst (LegsFrom b at) (legs_same e) (over (sym (past_end b at (omega arith))))
+from zero at b gs h l e = subst (LegsFrom b at) (legs_same e) (over (sym (none_left b at (omega arith))))
 from (suc i) at b gs h l e = turn i at b gs h l e (λ v hs. from i v b hs)
 
 -- "read back unchanged", by the program's own reader

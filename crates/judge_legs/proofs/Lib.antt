@@ -1,3 +1,2 @@
 -- The laws that the functions of `judge_legs` cite.
-pub mod ByKind
 pub mod Steps

@@ -3,11 +3,11 @@ use Prim.Native.Nat.{ℕ, ◌+◌, ◌≤◌, ◌<◌}
 use mathlib.Core.Path.{◌≡◌, refl, sym, ap, ◌∙◌}
 use mathlib.Core.Bool.{Bool, true, false, false≢true}
 use mathlib.Core.List.{List, [], ◌∷◌, ◌++◌}
-use mathlib.Core.Logic.{◌≢◌}
 use native.Mathlib.Omega.{arith}
 use lib.Dec.{eqb}
+use Rattle.std.specs.List.{list_any}
 use lib.ListN.{length, get_or, drop, drop_of_length-le}
-use borrow.Author.Tests.{eqb-true, eq-eqb, ne_eqb}
+use borrow.Author.Tests.{eqb-true, eqb-false, eq-eqb, ne_eqb}
 use Rattle.base.proofs.Below.{left_at}
 use Rattle.base.proofs.Choice.{split}
 use Rattle.base.proofs.Each.{each_mem}
@@ -26,9 +26,6 @@ use Rattle.handheld.proofs.Decided.{listed_mem}
 use Rattle.judge_paths.specs.Areas.{is_child, child_of}
 
 -- ---- a search through a lent list
-pub list_start : (f : ℕ → Bool) (l : List ℕ) → Sought f (any f l) (drop 0 l)
-list_start f l = record { rest = refl }
-
 module _ {f : ℕ → Bool} {goal : Bool} (l : List ℕ) (i : ℕ) (h : Sought f goal (drop i l)) where
   pub list_next : {x : Bool} → i < length l → x ≡ f (get_or l i 0) → x ≡ false → Sought f goal (drop (i + 1) l)
   list_next g e t = sought_next h (left_at l i g) (sym e ∙ t)
@@ -40,16 +37,15 @@ module _ {f : ℕ → Bool} {goal : Bool} (l : List ℕ) (i : ℕ) (h : Sought f
   list_none g = sought_none h (drop_of_length-le l {i = i} g)
 
 -- the stop itself is looked for
-module _ {goal : Bool} (s : ℕ) (l : List ℕ) (i : ℕ) (h : Sought (eqb s) goal (drop i l)) where
-  pub stop_next : i < length l → s ≢ get_or l i 0 → Sought (eqb s) goal (drop (i + 1) l)
-  stop_next g t = list_next l i h g refl (ne_eqb s (get_or l i 0) t)
-
-  pub stop_found : i < length l → s ≡ get_or l i 0 → true ≡ goal
-  stop_found g t = list_found l i h g refl (eq-eqb s (get_or l i 0) t)
-
-pub listed_is : (s : ℕ) (l : List ℕ) → is_listed s l ≡ any (eqb s) l
-unfolding is_listed
-listed_is s l = refl
+pub listed_is : (s : ℕ) (l : List ℕ) → list_any (λ y. eqb y s) l ≡ is_listed s l
+unfolding is_listed any
+listed_is s [] = refl
+listed_is s (x ∷ l) =
+    split (eqb s x)
+    (λ t. let e : eqb x s ≡ true = eq-eqb x s (sym (eqb-true s x t)) in rw e (sym (any_now (eqb s) x l t)))
+    (λ t.
+    let e : eqb x s ≡ false = ne_eqb x s (λ q. eqb-false s x t (sym q)) in
+    rw e (listed_is s l ∙ sym (any_on (eqb s) x l t)))
 
 -- ---- through two lists, one after the other
 module _ {A : Type 0} (f : A → Bool) where

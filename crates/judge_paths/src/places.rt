@@ -12,14 +12,7 @@ use model::Location;
 fn is_listed(stops: &[u32], s: u32) -> bool
     ensures { result ≡ is_listed s stops.now }
 {
-    let mut i: usize = 0;
-    while i < stops.len() {
-        if s == stops[i] {
-            return true;
-        }
-        i += 1;
-    }
-    false
+    stops.contains(&s)
 }
 
 // Whether s is a child of a stop that the area names.
@@ -28,30 +21,24 @@ fn is_child(tables: &[u32], a: u32, s: u32) -> bool
     requires a_bound { a < (net_of tables.now).areas }
     ensures { result ≡ child_of (net_of tables.now) s ((net_of tables.now).area_stops a) }
 {
-    let named = repository::places::stops_named(tables, a);
-    let mut i: usize = 0;
-    while i < named.len() {
-        let children = repository::places::children(tables, named[i]);
-        if is_listed(children, s) {
+    for p in repository::places::stops_named(tables, a) {
+        if is_listed(repository::places::children(tables, *p), s) {
             return true;
         }
-        i += 1;
     }
     false
 }
 
 // Whether s is one of an area's stops: a served child of a stop that it names.
+#[tactic(auto, using(crate::proofs::Listed::area_served, crate::proofs::Listed::area_unserved, crate::proofs::Listed::area_beyond))]
 fn in_area(tables: &[u32], a: u32, s: u32) -> bool
     requires accepted { Accepted tables.now }
     requires a_bound { a < (net_of tables.now).areas }
     ensures { result ≡ is_listed s (stops_of_area (net_of tables.now) a) }
 {
-    if s < repository::places::stop_count(tables) {
-        if repository::places::served(tables, s) {
-            return is_child(tables, a, s);
-        }
-    }
-    false
+    s < repository::places::stop_count(tables)
+        && repository::places::served(tables, s)
+        && is_child(tables, a, s)
 }
 
 // Whether s is one of a place's stops.

@@ -8,11 +8,11 @@ use lib.Dec.{leb}
 use lib.ListN.{length, take, drop}
 use borrow.Author.Tests.{le-leb}
 use Rattle.base.proofs.Choice.{split}
+use Rattle.model.specs.declared.Found.{Found}
 use Rattle.model.specs.declared.Query.{Query}
 use Rattle.model.specs.declared.TimeConstraint.{TimeConstraint}
 use Rattle.model.specs.Answer.{may_walk, moment_of, refusal}
 use Rattle.model.proofs.Asking.{passed}
-use Rattle.shared.specs.declared.Time.{Time}
 use Rattle.repository.specs.Checked.{check_of}
 use Rattle.repository.specs.NetOf.{net_of}
 use Rattle.raptor.specs.Lent.{Lent}
@@ -62,15 +62,14 @@ module _ (w : List ℕ) (from-kind from to-kind to when moment walks mode : ℕ)
   pub faced_gets_yes : (before : Lent) (a : List ℕ) {r : ℕ} {after : Lent} {a' : List ℕ}
       → Faced w (query_of from-kind from to-kind to when moment walks mode) before a r after a' → r ≡ 0
       → Ways (net_of w) (may_walk (walks_of walks)) (time_of when moment walks mode)
-      → (time : Time) × (s : ℕ) × (k : ℕ) × (z : ℕ) × (a' ≡ 0 ∷ time.0 ∷ s ∷ k ∷ z ∷ drop 5 a)
+      → (found : Found) × (a' ≡ 0 ∷ found.time.0 ∷ found.stop ∷ found.round ∷ found.length ∷ drop 5 a)
       × ((told : List ℕ) → 1 ≤ length told
-      → (judge_number w (query_of from-kind from to-kind to when moment walks 0) (take z after.journey) told ≡ 0)
-      × (judge_left w (query_of from-kind from to-kind to when moment walks 0) (take z after.journey) told ≡ 1 ∷ drop 1 told))
+      → (judge_number w (query_of from-kind from to-kind to when moment walks 0) (take found.length after.journey) told ≡ 0)
+      × (judge_left w (query_of from-kind from to-kind to when moment walks 0) (take found.length after.journey) told ≡ 1 ∷ drop 1 told))
   unfolding query_of judge_number judge_left verdict_number verdict_in
   faced_gets_yes before a {after = after} f e ways =
       let x = faced_found w asked before a f e in
-      let z = x.3 in
-      let yes = found_gets_yes w asked before x.4 refl ways in
-      let p = found_accepted w asked before x.4 refl in
-      let told_yes = judged_alike p.1 (take z after.journey) ∙ yes in
-      (x.0, x.1, x.2, z, x.5, λ told h. (rw (le-leb 1 (length told) h, told_yes), rw (le-leb 1 (length told) h, told_yes)))
+      let yes = found_gets_yes w asked before x.1 refl ways in
+      let p = found_accepted w asked before x.1 refl in
+      let told_yes = judged_alike p.1 (take x.0.length after.journey) ∙ yes in
+      (x.0, x.2, λ told h. (rw (le-leb 1 (length told) h, told_yes), rw (le-leb 1 (length told) h, told_yes)))

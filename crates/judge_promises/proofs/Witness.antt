@@ -6,13 +6,12 @@ use mathlib.Core.Bool.{true}
 use mathlib.Core.List.{List, [], ◌∷◌, ◌++◌}
 use lib.ListN.{length, take}
 use Rattle.base.specs.Tab.{tab}
-use Rattle.model.specs.declared.Answer.{Answer}
 use Rattle.model.specs.declared.Leg.{Leg}
 use Rattle.model.specs.Spans.{transfer_span, walk_span}
 use Rattle.model.specs.Lists.{upto, gather}
 use Rattle.model.specs.Places.{exists, or_itself, stops_of_stop, served_of, stops_of_area, place_stops, unserved, barren}
 use Rattle.model.specs.Bytes.{legs, u32, kind_byte, trip_field, write_leg, write, read, read_from, first_leg, uncut, leg_of_body, leg_at, u32_at, before, leg_size, BadAt}
-use Rattle.model.specs.Answer.{may_walk, moment_of, refusal, lowest, unless}
+use Rattle.model.specs.Answer.{Answer, may_walk, moment_of, refusal, lowest, unless}
 use Rattle.repository.specs.Sections.{size, sec}
 use Rattle.repository.specs.Checked.{check_of}
 use Rattle.repository.specs.NetOf.{count, list_of, transfer_row, walk_row, station_of, net_of}
@@ -20,13 +19,13 @@ use Rattle.check_tables.proofs.Examples.{N, N_accepted, N9}
 use Rattle.check_tables.proofs.Whole.{accepted_is}
 use Rattle.raptor.specs.Lent.{Lent}
 use Rattle.raptor.specs.Solved.{sized, Solved}
-use Rattle.handheld.specs.declared.Verdict.{Verdict}
-use Rattle.handheld.specs.declared.Verdict.TheVariants.{Yes, No, Bad}
+use Rattle.std.specs.Prelude.{true, false, Ok, Err}
+use Rattle.handheld.specs.declared.NoVerdict.TheVariants.{Bad}
 use Rattle.handheld.specs.Any.{any}
 use Rattle.handheld.specs.Right.{is_ride, soonest, Right, Ways}
 use Rattle.handheld.specs.Fitting.{leaves_at, comes_at, comes_from, fits_from, fits_trip, stands_at, fits_route, fits_ride, fits_foot, fits_path, fits_leg}
 use Rattle.handheld.specs.Verdict.{is_listed, rides_with, follows, led, leg_on, follow, may_begin, may_end, at_start, comes_in, verdict}
-use Rattle.handheld.specs.Judged.{judged_as, judged}
+use Rattle.handheld.specs.Judged.{Verdict, judged_as, judged}
 use Rattle.witnesses.proofs.Computed.{from_0_at_50, N1_legs, to_4_by_450}
 use Rattle.witnesses.proofs.N1.{N1_answer}
 use Rattle.witnesses.proofs.N9.{N9_both, N9_answer}
@@ -38,9 +37,9 @@ by_words b e = ap (λ (c : ℕ). judged c (net_of N) from_0_at_50 b) ((accepted_
 
 -- N1's bytes get a yes; its first leg alone a no; with a byte too many a 13
 pub N1_told :
-    (judged (check_of N) (net_of N) from_0_at_50 (write N1_legs) ≡ Yes)
-    × (judged (check_of N) (net_of N) from_0_at_50 (take 21 (write N1_legs)) ≡ No)
-    × (judged (check_of N) (net_of N) from_0_at_50 (write N1_legs ++ (9 ∷ [])) ≡ Bad 59)
+    (judged (check_of N) (net_of N) from_0_at_50 (write N1_legs) ≡ Ok true)
+    × (judged (check_of N) (net_of N) from_0_at_50 (take 21 (write N1_legs)) ≡ Ok false)
+    × (judged (check_of N) (net_of N) from_0_at_50 (write N1_legs ++ (9 ∷ [])) ≡ Err (Bad (record { at = 59 })))
 unfolding net_of count list_of sec size tab transfer_row walk_row station_of transfer_span walk_span any is_ride soonest leaves_at comes_at comes_from fits_from fits_trip stands_at fits_route fits_ride fits_foot fits_path fits_leg is_listed rides_with follows led leg_on follow may_begin may_end at_start comes_in verdict judged_as judged upto gather exists or_itself stops_of_stop served_of stops_of_area place_stops unserved barren u32 kind_byte trip_field write_leg write read read_from first_leg uncut leg_of_body leg_at u32_at before leg_size may_walk moment_of refusal lowest unless
 N1_told = (by_words (write N1_legs) refl, by_words (take 21 (write N1_legs)) refl, by_words (write N1_legs ++ (9 ∷ [])) refl)
 
@@ -64,10 +63,10 @@ N9_ways = N9_both
 
 module _ {before : Lent} {r : Answer} {after : Lent} (h : Solved N from_0_at_50 before r after)
     (roomy : sized (net_of N) before ≡ true) (enough : 59 ≤ length before.journey) where
-  pub N1_gets_yes : judged (check_of N) (net_of N) from_0_at_50 (take 59 after.journey) ≡ Yes
+  pub N1_gets_yes : judged (check_of N) (net_of N) from_0_at_50 (take 59 after.journey) ≡ Ok true
   N1_gets_yes = found_gets_yes N from_0_at_50 before h (N1_answer h roomy enough) N1_ways
 
 module _ {before : Lent} {r : Answer} {after : Lent} (h : Solved N9 to_4_by_450 before r after)
     (roomy : sized (net_of N9) before ≡ true) (enough : 59 ≤ length before.journey) where
-  pub N9_gets_yes : judged (check_of N9) (net_of N9) to_4_by_450 (take 59 after.journey) ≡ Yes
+  pub N9_gets_yes : judged (check_of N9) (net_of N9) to_4_by_450 (take 59 after.journey) ≡ Ok true
   N9_gets_yes = found_gets_yes N9 to_4_by_450 before h (N9_answer h roomy enough) N9_ways

@@ -3,16 +3,12 @@ use Prim.Native.Nat.{ℕ, suc, ◌+◌, ◌-◌, ◌≤◌, ◌<◌}
 use mathlib.Core.Path.{◌≡◌, sym, ap, ◌∙◌, subst}
 use mathlib.Core.Bool.{Bool, true, false}
 use mathlib.Core.List.{List}
-use mathlib.Core.Logic.{◌≢◌}
 use native.Mathlib.Omega.{arith}
 use native.Mathlib.Numerals.{add-one}
-use lib.Dec.{eqb}
-use borrow.Author.Tests.{eq-eqb, ne_eqb}
 use Rattle.base.proofs.Choice.{split, same_test, and_right}
 use Rattle.model.specs.declared.Leg.{Leg}
 use Rattle.model.specs.Lists.{upto}
 use Rattle.model.specs.Tables.{Net}
-use Rattle.repository.specs.Laid.{Laid}
 use Rattle.repository.specs.Accepted.{Accepted}
 use Rattle.repository.specs.Readable.{Readable}
 use Rattle.repository.specs.NetOf.{net_of}
@@ -27,17 +23,7 @@ use Rattle.handheld.proofs.Legs.{both, comes_sound, comes_complete, ride_at, rid
 use Rattle.judge_rides.specs.Ridable.{Ridable, RidableAt}
 
 -- ---- what the readers ask
-module _ {w : List ℕ} {r v : ℕ} (h : Ridable w r v) where
-  pub ridable_laid : Laid w
-  ridable_laid = (h.known tt).laid
-
-  pub ridable_at : {p len : ℕ} → len ≡ (net_of w).positions r → p < len → RidableAt w r v p
-  ridable_at e l = record { ridable = h; position = rw e at l }
-
 module _ {w : List ℕ} {r v p : ℕ} (h : RidableAt w r v p) where
-  pub at_laid : Laid w
-  at_laid = ridable_laid h.ridable
-
   pub at_readable : Readable w
   at_readable = searchable_readable (accepted_searchable (h.ridable.known tt))
 
@@ -48,24 +34,6 @@ pub standing_ridable : {w : List ℕ} {v r count : ℕ} → Accepted w → count
 standing_ridable {w} {v} ok e l f =
     let i : v < trip_count w = rw e at l in
     record { known = λ u. ok; route = rw f (standing_in ok i); trip = rw f (standing_trip_of ok i) }
-
--- ---- one position
-module _ (n : Net) (r v : ℕ) (g : Leg) (p : ℕ) {stop : ℕ} (e : stop ≡ n.stop_at r p) where
-  pub leaves_there : {x : ℕ} → stop ≡ g.from → x ≡ n.departure v p → eqb x g.departure.0 ≡ leaves_at n r v g p
-  unfolding leaves_at
-  leaves_there t f = rw (← e, eq-eqb stop g.from t, f)
-
-  pub leaves_elsewhere : stop ≢ g.from → false ≡ leaves_at n r v g p
-  unfolding leaves_at
-  leaves_elsewhere t = rw (← e, ne_eqb stop g.from t)
-
-  pub comes_there : {x : ℕ} → stop ≡ g.to → x ≡ n.arrival v p → eqb x g.arrival.0 ≡ comes_at n r v g p
-  unfolding comes_at
-  comes_there t f = rw (← e, eq-eqb stop g.to t, f)
-
-  pub comes_elsewhere : stop ≢ g.to → false ≡ comes_at n r v g p
-  unfolding comes_at
-  comes_elsewhere t = rw (← e, ne_eqb stop g.to t)
 
 -- ---- the two loops
 module _ (n : Net) (r v : ℕ) (g : Leg) {len : ℕ} (e : len ≡ n.positions r) where

@@ -10,25 +10,23 @@ ghost use Rattle.judge_rides.specs.Ridable.{Ridable, RidableAt};
 use model::Leg;
 
 // Whether the trip leaves the leg's first stop at the leg's departure, at position b.
+#[tactic(auto, unfolding(handheld::specs::Fitting::leaves_at))]
 fn leaves_at(tables: &[u32], r: u32, v: u32, g: Leg, b: u32) -> bool
     requires { RidableAt tables.now r v b }
     ensures { result ≡ leaves_at (net_of tables.now) r v g b }
 {
-    if repository::routes::stop_at(tables, r, b) == g.from {
-        return discovery::get_departure_time(tables, v, b).0 == g.departure.0;
-    }
-    false
+    repository::routes::stop_at(tables, r, b) == g.from
+        && discovery::get_departure_time(tables, v, b).0 == g.departure.0
 }
 
 // Whether it comes to the leg's last stop at the leg's arrival, at position a.
+#[tactic(auto, unfolding(handheld::specs::Fitting::comes_at))]
 fn comes_at(tables: &[u32], r: u32, v: u32, g: Leg, a: u32) -> bool
     requires { RidableAt tables.now r v a }
     ensures { result ≡ comes_at (net_of tables.now) r v g a }
 {
-    if repository::routes::stop_at(tables, r, a) == g.to {
-        return discovery::get_arrival_time(tables, v, a).0 == g.arrival.0;
-    }
-    false
+    repository::routes::stop_at(tables, r, a) == g.to
+        && discovery::get_arrival_time(tables, v, a).0 == g.arrival.0
 }
 
 // Whether it does so at one of the positions from `from` on.
@@ -36,13 +34,10 @@ fn comes_from(tables: &[u32], r: u32, v: u32, g: Leg, from: u32) -> bool
     requires { Ridable tables.now r v }
     ensures { result ≡ comes_from (net_of tables.now) r v g from }
 {
-    let len = repository::routes::route_len(tables, r);
-    let mut a = from;
-    while a < len {
+    for a in from..repository::routes::route_len(tables, r) {
         if comes_at(tables, r, v, g, a) {
             return true;
         }
-        a += 1;
     }
     false
 }
@@ -53,13 +48,10 @@ fn fits_trip(tables: &[u32], r: u32, v: u32, g: Leg) -> bool
     requires { Ridable tables.now r v }
     ensures { result ≡ fits_trip (net_of tables.now) r v g }
 {
-    let len = repository::routes::route_len(tables, r);
-    let mut b: u32 = 0;
-    while b < len {
+    for b in 0..repository::routes::route_len(tables, r) {
         if leaves_at(tables, r, v, g, b) {
             return comes_from(tables, r, v, g, b + 1);
         }
-        b += 1;
     }
     false
 }
@@ -69,9 +61,6 @@ pub fn fits_ride(tables: &[u32], v: u32, g: Leg) -> bool
     requires { Accepted tables.now }
     ensures { result ≡ fits_ride (net_of tables.now) v g }
 {
-    if v < repository::routes::trip_count(tables) {
-        let r = repository::routes::route_of(tables, v);
-        return fits_trip(tables, r, v, g);
-    }
-    false
+    v < repository::routes::trip_count(tables)
+        && fits_trip(tables, repository::routes::route_of(tables, v), v, g)
 }

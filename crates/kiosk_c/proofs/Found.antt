@@ -1,5 +1,5 @@
 -- "0 journey found": where the C face gives 0, the search found a journey, and the answer's five words are its own. So what is proved of
--- `Found` is proved of a caller's 0.
+-- `Ok` is proved of a caller's 0.
 use Prim.Native.Nat.{ℕ, zero, suc}
 use mathlib.Core.Path.{◌≡◌, sym, ap, ◌∙◌, subst}
 use mathlib.Core.List.{List, ◌∷◌}
@@ -7,11 +7,10 @@ use native.Mathlib.Omega.{arith}
 use native.Mathlib.Decide.{dec_lt}
 use lib.ListN.{length, drop}
 use borrow.Author.Tests.{ne_eqb}
-use Rattle.shared.specs.declared.Time.{Time}
-use Rattle.model.specs.declared.Answer.{Answer}
-use Rattle.model.specs.declared.Answer.TheVariants.{Found}
+use Rattle.std.specs.Prelude.{Ok}
+use Rattle.model.specs.declared.Found.{Found}
 use Rattle.model.specs.declared.Query.{Query}
-use Rattle.model.specs.Answer.{given}
+use Rattle.model.specs.Answer.{Answer, given}
 use Rattle.repository.specs.Checked.{check_of}
 use Rattle.raptor.specs.Lent.{Lent}
 use Rattle.raptor.specs.Solved.{Solved}
@@ -27,18 +26,17 @@ short_some (suc k) e = let f : suc k ≡ 0 = rw (ne_eqb (suc k) 0 (λ g. omega a
 
 module _ (w : List ℕ) (q : Query) (before : Lent) (a : List ℕ) where
   -- the answer that is known to be a journey, where the contract names it
-  solved_so : {x : Answer} {after : Lent} {time : Time} {s k z : ℕ} → x ≡ Found time s k z → Solved w q before x after
-      → Solved w q before (Found time s k z) after
+  solved_so : {x : Answer} {after : Lent} {f : Found} → x ≡ Ok f → Solved w q before x after
+      → Solved w q before (Ok f) after
   solved_so {after = after} e h = subst (λ (b : Answer). Solved w q before b after) e h
 
-  told_so : {x : Answer} {a' : List ℕ} {time : Time} {s k z : ℕ} → x ≡ Found time s k z → a' ≡ told_in (given x) a
-      → a' ≡ 0 ∷ time.0 ∷ s ∷ k ∷ z ∷ drop 5 a
+  told_so : {x : Answer} {a' : List ℕ} {f : Found} → x ≡ Ok f → a' ≡ told_in (given x) a
+      → a' ≡ 0 ∷ f.time.0 ∷ f.stop ∷ f.round ∷ f.length ∷ drop 5 a
   unfolding given told_in
   told_so e h = h ∙ ap (λ (b : Answer). told_in (given b) a) e
 
   pub faced_found : {r : ℕ} {after : Lent} {a' : List ℕ} → Faced w q before a r after a' → r ≡ 0
-      → (time : Time) × (s : ℕ) × (k : ℕ) × (z : ℕ) × Solved w q before (Found time s k z) after
-      × (a' ≡ 0 ∷ time.0 ∷ s ∷ k ∷ z ∷ drop 5 a)
+      → (f : Found) × Solved w q before (Ok f) after × (a' ≡ 0 ∷ f.time.0 ∷ f.stop ∷ f.round ∷ f.length ∷ drop 5 a)
   faced_found f e =
       elim (dec_lt (length a) 5) [
         | yes h ↦ absurd (short_some (check_of w) (sym (f.short h).0 ∙ e))
@@ -46,5 +44,5 @@ module _ (w : List ℕ) (q : Query) (before : Lent) (a : List ℕ) where
             let x = f.solved (omega arith) in
             let g = given x.0 in
             let is = number_0 w q before x.1 (sym x.2 ∙ e) in
-            (record { 0 = g.time }, g.stop, g.round, g.length, solved_so is x.1, told_so is x.3)
+            (record { time = record { 0 = g.time }; stop = g.stop; round = g.round; length = g.length }, solved_so is x.1, told_so is x.3)
       ]

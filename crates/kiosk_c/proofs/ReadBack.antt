@@ -4,8 +4,8 @@ use mathlib.Core.Path.{◌≡◌, refl, sym, ◌∙◌, subst}
 use mathlib.Core.List.{List, [], ◌∷◌}
 use native.Mathlib.Omega.{arith}
 use lib.ListN.{get_or, take, drop}
-use Rattle.shared.specs.declared.Time.{Time}
-use Rattle.model.specs.declared.Answer.TheVariants.{Found}
+use Rattle.std.specs.Prelude.{Ok}
+use Rattle.model.specs.declared.Found.{Found}
 use Rattle.model.specs.declared.Leg.{Leg}
 use Rattle.model.specs.declared.Query.{Query}
 use Rattle.model.specs.Answer.{legs_of}
@@ -50,10 +50,10 @@ module _ (b : List ℕ) where
 
 -- where `kiosk_solve` gives 0, as many bytes of the journey as its answer's length says are walked as the legs of the search
 module _ (w : List ℕ) (q : Query) (before : Lent) (a : List ℕ) where
-  walked : {after : Lent} {a' : List ℕ} {time : Time} {s k z : ℕ} → Solved w q before (Found time s k z) after
-      → a' ≡ 0 ∷ time.0 ∷ s ∷ k ∷ z ∷ drop 5 a → FaceLegsFrom (take (get_or a' 4 0) after.journey) 0 (legs_of (net_of w) q)
-  walked {after} {z = z} h e = rw e (face_legs_from (take z after.journey) (legs_of (net_of w) q) (reads_back w q before h refl))
+  walked : {after : Lent} {a' : List ℕ} {f : Found} → Solved w q before (Ok f) after
+      → a' ≡ 0 ∷ f.time.0 ∷ f.stop ∷ f.round ∷ f.length ∷ drop 5 a → FaceLegsFrom (take (get_or a' 4 0) after.journey) 0 (legs_of (net_of w) q)
+  walked {after} {f = f} h e = rw e (face_legs_from (take f.length after.journey) (legs_of (net_of w) q) (reads_back w q before h refl))
 
   pub faced_legs : {r : ℕ} {after : Lent} {a' : List ℕ} → Faced w q before a r after a' → r ≡ 0
       → FaceLegsFrom (take (get_or a' 4 0) after.journey) 0 (legs_of (net_of w) q)
-  faced_legs f e = let g = faced_found w q before a f e in walked g.4 g.5
+  faced_legs f e = let g = faced_found w q before a f e in walked g.1 g.2

@@ -4,10 +4,9 @@ use mathlib.Core.Path.{◌≡◌, refl, sym, subst}
 use mathlib.Core.List.{List}
 use native.Mathlib.Omega.{arith}
 use lib.ListN.{length}
-use borrow.Author.Tests.{eq-eqb, ne_eqb}
-use Rattle.model.specs.declared.Answer.{Answer}
+use borrow.Author.Tests.{eq-eqb}
 use Rattle.model.specs.declared.Query.{Query}
-use Rattle.model.specs.Answer.{given}
+use Rattle.model.specs.Answer.{Answer, given}
 use Rattle.repository.specs.Accepted.{Accepted}
 use Rattle.repository.specs.Checked.{check_of}
 use Rattle.check_tables.proofs.Whole.{accepted_is}
@@ -23,10 +22,6 @@ module _ (w : List ℕ) {c : ℕ} (e : c ≡ check_of w) where
   pub short_none : c ≡ 0 → 6 ≡ short_number (check_of w)
   unfolding short_number
   short_none z = rw (← e, eq-eqb c 0 z)
-
-  pub short_own : (c ≡ 0 → ⊥) → c ≡ short_number (check_of w)
-  unfolding short_number
-  short_own h = rw (← e, ne_eqb c 0 h)
 
 module _ (w : List ℕ) (q : Query) (before : Lent) (a : List ℕ) where
   pub too_short : {r : ℕ} → length a < 5 → r ≡ short_number (check_of w) → Faced w q before a r before a

@@ -5,9 +5,8 @@ use mathlib.Core.List.{List}
 use native.Mathlib.Omega.{arith}
 use native.Mathlib.Decide.{dec_lt}
 use lib.ListN.{length}
-use Rattle.model.specs.declared.Answer.{Answer}
 use Rattle.model.specs.declared.Query.{Query}
-use Rattle.model.specs.Answer.{given}
+use Rattle.model.specs.Answer.{Answer, given}
 use Rattle.raptor.specs.Lent.{Lent}
 use Rattle.raptor.proofs.Unique.{solved_unique}
 use Rattle.kiosk_words.specs.Words.{told_in}

@@ -2,54 +2,16 @@
 use Prim.Native.Nat.{ℕ, ◌≤◌, ◌<◌}
 use mathlib.Core.Path.{◌≡◌}
 use mathlib.Core.List.{List}
-use lib.ListN.{length, set}
+use lib.ListN.{length}
 use borrow.Author.Tests.{le-leb, lt-leb}
 use Rattle.model.specs.declared.Query.{Query}
 use Rattle.repository.specs.Accepted.{Accepted}
 use Rattle.repository.specs.Checked.{check_of}
 use Rattle.repository.specs.NetOf.{net_of}
 use Rattle.check_tables.proofs.Whole.{accepted_is}
-use Rattle.handheld.specs.declared.Verdict.{Verdict}
-use Rattle.handheld.specs.declared.Verdict.TheVariants.{Yes, No, Bad, Refused}
-use Rattle.handheld.specs.Judged.{judged, verdict_number}
+use Rattle.handheld.specs.Judged.{Verdict, judged, verdict_number}
 use Rattle.kiosk_c.specs.Face.{short_number}
 use Rattle.kiosk_c.specs.Judging.{verdict_in, judge_number, judge_left}
-use Rattle.kiosk_c.proofs.Reading.{first}
-
-module _ {v : Verdict} where
-  pub yes_number : v ≡ Yes → 0 ≡ verdict_number v
-  unfolding verdict_number
-  yes_number e = rw e
-
-  pub no_number : v ≡ No → 0 ≡ verdict_number v
-  unfolding verdict_number
-  no_number e = rw e
-
-  pub bad_number : {o : ℕ} → v ≡ Bad o → 13 ≡ verdict_number v
-  unfolding verdict_number
-  bad_number e = rw e
-
-  pub refused_number : {x : ℕ} → v ≡ Refused x → x ≡ verdict_number v
-  unfolding verdict_number
-  refused_number e = rw e
-
-module _ (told : List ℕ) {v : Verdict} where
-  pub refused_in : {x : ℕ} → v ≡ Refused x → told ≡ verdict_in v told
-  unfolding verdict_in
-  refused_in e = rw e
-
-  module _ (h : 1 ≤ length told) where
-    pub yes_in : v ≡ Yes → set told 0 1 ≡ verdict_in v told
-    unfolding verdict_in
-    yes_in e = rw e (first 1 told h)
-
-    pub no_in : v ≡ No → set told 0 0 ≡ verdict_in v told
-    unfolding verdict_in
-    no_in e = rw e (first 0 told h)
-
-    pub bad_in : {o : ℕ} → v ≡ Bad o → set told 0 o ≡ verdict_in v told
-    unfolding verdict_in
-    bad_in {o} e = rw e (first o told h)
 
 module _ (w : List ℕ) (q : Query) (b told : List ℕ) where
   -- where there is no word for it

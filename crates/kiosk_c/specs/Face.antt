@@ -1,8 +1,7 @@
 -- The C face: what a call answers and leaves, in words and numbers.
 use Rattle.std.specs.Prelude.{ℕ, ◌<◌, ◌≤◌, ◌≡◌, cond, List, ◌∷◌, leb, eqb, length, drop}
-use Rattle.model.specs.declared.Answer.{Answer}
 use Rattle.model.specs.declared.Query.{Query}
-use Rattle.model.specs.Answer.{given}
+use Rattle.model.specs.Answer.{Answer, given}
 use Rattle.repository.specs.Checked.{check_of}
 use Rattle.allocator.specs.Layout.{words_room, marks_room}
 use Rattle.repository.specs.NetOf.{net_of}

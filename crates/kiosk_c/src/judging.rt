@@ -7,28 +7,27 @@ ghost use Rattle.handheld.specs.Judged.{judged, verdict_number};
 ghost use Rattle.kiosk_words.specs.Words.{query_of};
 ghost use Rattle.kiosk_c.specs.Judging.{verdict_in, judge_number, judge_left};
 
-use handheld::Verdict;
+use super::NO_ROOM;
+use super::legs::BAD_LEG;
+use handheld::{NoVerdict, Verdict};
 
 // Writes a verdict in one word, and gives its number; a refusal writes nothing.
+#[tactic(auto, using(crate::proofs::Reading::first), unfolding(handheld::specs::Judged::verdict_number, crate::specs::Judging::verdict_in))]
 fn tell_verdict(told: &mut [u64], v: Verdict) -> u32
     requires { 1 ≤ length told.old }
     ensures value { result ≡ verdict_number v }
     ensures told_after { told.new ≡ verdict_in v told.old }
 {
     match v {
-        Verdict::Yes => {
-            told[0] = 1;
-            return 0;
+        Ok(yes) => {
+            told[0] = u64::from(yes);
+            0
         }
-        Verdict::No => {
-            told[0] = 0;
-            return 0;
+        Err(NoVerdict::Bad(bad)) => {
+            told[0] = bad.at as u64;
+            BAD_LEG
         }
-        Verdict::Bad(offset) => {
-            told[0] = offset as u64;
-            return 13;
-        }
-        Verdict::Refused(number) => return number,
+        Err(NoVerdict::Refused(r)) => r.into(),
     }
 }
 
@@ -51,12 +50,11 @@ pub fn kiosk_judge(
     ensures told_after { told.new ≡ judge_left tables.now (query_of from_kind from to_kind to when moment walks 0)
         bytes.now told.old }
 {
-    if told.len() < 1 {
+    if told.is_empty() {
         return super::short_number(tables);
     }
     let q = kiosk_words::query_of(from_kind, from, to_kind, to, when, moment, walks, 0);
-    let v = judge::judge(tables, bytes, q);
-    tell_verdict(told, v)
+    tell_verdict(told, judge::judge(tables, bytes, q))
 }
 
 // The same, for tables that `kiosk_check` answered with 0.
@@ -78,10 +76,9 @@ pub fn kiosk_judge_checked(
     ensures told_after { told.new ≡ judge_left tables.now (query_of from_kind from to_kind to when moment walks 0)
         bytes.now told.old }
 {
-    if told.len() < 1 {
-        return 6;
+    if told.is_empty() {
+        return NO_ROOM;
     }
     let q = kiosk_words::query_of(from_kind, from, to_kind, to, when, moment, walks, 0);
-    let v = judge::judge_checked(tables, bytes, q);
-    tell_verdict(told, v)
+    tell_verdict(told, judge::judge_checked(tables, bytes, q))
 }

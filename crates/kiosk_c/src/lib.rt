@@ -8,7 +8,8 @@ ghost use Rattle.raptor.specs.Lent.{lent};
 ghost use Rattle.kiosk_words.specs.Words.{query_of};
 ghost use Rattle.kiosk_c.specs.Face.{short_number, Faced, room_number, room_left};
 
-use raptor::Needed;
+// The number where what is told has no room; the workspace's (`Refusal::Room`).
+const NO_ROOM: u32 = 6;
 
 pub mod judging; // judging.rt: journeys that handhelds send
 pub mod legs; // legs.rt: journey bytes, read
@@ -17,7 +18,10 @@ pub mod legs; // legs.rt: journey bytes, read
 pub fn kiosk_check(tables: &[u32]) -> u32
     ensures { result ≡ check_of tables.now }
 {
-    raptor::check(tables)
+    match raptor::check(tables) {
+        Ok(()) => 0,
+        Err(r) => r.into(),
+    }
 }
 
 // The three lengths that a search on these tables asks for: words, marks, places. 1 to 5 for tables that are refused, 6 where there are
@@ -26,34 +30,31 @@ pub fn kiosk_room(tables: &[u32], room: &mut [u32]) -> u32
     ensures value { result ≡ room_number tables.now room.old }
     ensures room_after { room.new ≡ room_left tables.now room.old }
 {
-    let needed = raptor::room(tables);
-    match needed {
-        Needed::Lengths {
-            words: words,
-            marks: marks,
-            places: places,
-        } => {
-            if room.len() < 3 {
-                return 6;
-            }
-            room[0] = words as u32;
-            room[1] = marks as u32;
-            room[2] = places as u32;
-            return 0;
-        }
-        Needed::Refused(number) => return number,
+    let lengths = match raptor::room(tables) {
+        Ok(lengths) => lengths,
+        Err(r) => return r.into(),
+    };
+    if room.len() < 3 {
+        return NO_ROOM;
     }
+    let words = [
+        lengths.words as u32,
+        lengths.marks as u32,
+        lengths.places as u32,
+    ];
+    room[..3].copy_from_slice(&words);
+    0
 }
 
 // The number where the answer has no room: the tables' own, or 6.
+#[tactic(auto, unfolding(crate::specs::Face::short_number))]
 fn short_number(tables: &[u32]) -> u32
     ensures { result ≡ short_number (check_of tables.now) }
 {
-    let number = raptor::check(tables);
-    if number == 0 {
-        return 6;
+    match kiosk_check(tables) {
+        0 => NO_ROOM,
+        number => number,
     }
-    number
 }
 
 // Checks everything, then searches: the number, which is also the first word of the answer.
@@ -108,7 +109,7 @@ pub fn kiosk_solve_checked(
         (lent words.new marks.new places.new journey.new) answer.new }
 {
     if answer.len() < 5 {
-        return 6;
+        return NO_ROOM;
     }
     let q = kiosk_words::query_of(from_kind, from, to_kind, to, when, moment, walks, mode);
     let a = raptor::solve_checked(tables, words, marks, places, journey, q);

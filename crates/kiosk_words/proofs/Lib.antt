@@ -1,5 +1,3 @@
--- The laws behind the proofs of the words.
-pub mod Asked
-pub mod Writes
-pub mod Told
+-- The laws of the words that others cite.
 pub mod Legs
+pub mod Writes

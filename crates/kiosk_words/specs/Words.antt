@@ -47,7 +47,7 @@ unfoldable pub told_in : Given → List ℕ → List ℕ
 told_in g a = g.number ∷ g.time ∷ g.stop ∷ g.round ∷ g.length ∷ drop 5 a
 
 -- a footpath has no trip: its word is MAX
-unfoldable pub trip_word : LegType → ℕ
+abbrev pub trip_word : LegType → ℕ
 trip_word (Transit v) = v
 trip_word Transfer = MAX
 trip_word Walk = MAX

@@ -3,242 +3,172 @@
 
 use std::io::Read;
 use std::rt::Files;
-use std::{fs, io};
+use std::{fmt, fs, io};
 
 // What stops the reading.
-const NO_NUMBER: u32 = 1;
-
-const TOO_LARGE: u32 = 2;
-
-const TOO_MANY: u32 = 3;
-
-const UNREAD: u32 = 4;
-
-// its first byte is `#` or a letter that no tables begin with
-const TIMETABLE: u32 = 5;
-
-// What is known of the file so far.
 #[derive(Clone, Copy)]
-pub struct Words {
-    // how many words are stored
-    pub count: usize,
-    // what stops the reading, 0 for nothing
-    pub fault: u32,
-    // what is open: 0 nothing, 1 a number, 2 `n`, 3 `ne`, 4 `net`
-    open: u32,
-    value: u32,
+pub enum Fault {
+    Unread,
+    // the first byte is `#` or a letter that no tables begin with
+    Timetable,
+    // more words than these, for which there is room
+    TooMany(usize),
+    // a number above 2^32 - 1, after so many words
+    TooLarge(usize),
+    // something that is no number, after so many words
+    NoNumber(usize),
+}
+
+// What is said behind the file's name.
+impl fmt::Display for Fault {
+    fn fmt<W: fmt::Write>(&self, f: &mut fmt::Formatter<W>) -> fmt::Result {
+        match self {
+            Fault::Unread => write!(f, " cannot be read"),
+            Fault::Timetable => write!(
+                f,
+                " has no number first: this looks like a timetable: tools/timetable.py turns it into tables"
+            ),
+            Fault::TooMany(count) => write!(
+                f,
+                " has more than {count} words, and this program has no room for more: link the library (see README)"
+            ),
+            Fault::TooLarge(count) => {
+                write!(f, " has, after {count} words, a number above 4294967295")
+            }
+            Fault::NoNumber(count) => {
+                write!(f, " has, after {count} words, something that is no number")
+            }
+        }
+    }
+}
+
+// What is open where a byte comes.
+#[derive(Clone, Copy)]
+enum Open {
     // no word has begun yet
-    first: bool,
+    First,
+    // a space or a line's end stands before it
+    Nothing,
+    Number(u32),
+    // `n`, `ne` and `net`, which only a file's first word may be
+    N,
+    Ne,
+    Net,
 }
 
-fn new() -> Words {
-    Words {
-        count: 0,
-        fault: 0,
-        open: 0,
-        value: 0,
-        first: true,
-    }
+// What is known of the file so far: how many words are stored, and what is open.
+#[derive(Clone, Copy)]
+struct Words {
+    count: usize,
+    open: Open,
 }
 
-// The words so far with something open.
-fn opened(w: Words, open: u32, value: u32) -> Words {
-    Words {
-        count: w.count,
-        fault: 0,
-        open: open,
-        value: value,
-        first: false,
-    }
-}
-
-fn faulty(w: Words, fault: u32) -> Words {
-    Words {
-        count: w.count,
-        fault: fault,
-        open: 0,
-        value: 0,
-        first: false,
+impl Words {
+    // The same words with something open.
+    fn opened(self, open: Open) -> Words {
+        Words {
+            count: self.count,
+            open,
+        }
     }
 }
 
 // The words with an open number stored.
-fn stored(tables: &mut [u32], w: Words) -> Words {
-    let count = w.count;
-    if count < tables.len() {
-        tables[count] = w.value;
-        return Words {
-            count: count + 1,
-            fault: 0,
-            open: 0,
-            value: 0,
-            first: false,
-        };
+fn stored(tables: &mut [u32], count: usize, number: u32) -> Result<Words, Fault> {
+    if tables.len() <= count {
+        return Err(Fault::TooMany(count));
     }
-    faulty(w, TOO_MANY)
+    tables[count] = number;
+    Ok(Words {
+        count: count + 1,
+        open: Open::Nothing,
+    })
 }
 
 // The words with what is open closed: by a space, a line's end or the file's.
-fn close(tables: &mut [u32], w: Words) -> Words {
-    let open = w.open;
-    if w.fault != 0 {
-        return w;
-    }
-    match open {
-        0 => return w,
-        1 => return stored(tables, w),
-        4 => return opened(w, 0, 0),
-        _ => return faulty(w, NO_NUMBER),
+fn close(tables: &mut [u32], w: Words) -> Result<Words, Fault> {
+    match w.open {
+        Open::First | Open::Nothing => Ok(w),
+        Open::Number(number) => stored(tables, w.count, number),
+        Open::Net => Ok(w.opened(Open::Nothing)),
+        Open::N | Open::Ne => Err(Fault::NoNumber(w.count)),
     }
 }
 
-// The words with a first byte that is no digit: `n`, or what a timetable begins with.
-fn first_letter(w: Words, b: u8) -> Words {
-    match b {
-        110 => return opened(w, 2, 0),
-        35 | 97..=122 => return faulty(w, TIMETABLE),
-        _ => return faulty(w, NO_NUMBER),
+// The words with one more byte that is no digit: one of `net`, or what a timetable begins with.
+fn letter(w: Words, b: u8) -> Result<Words, Fault> {
+    match (w.open, b) {
+        (Open::First, b'n') => Ok(w.opened(Open::N)),
+        (Open::N, b'e') => Ok(w.opened(Open::Ne)),
+        (Open::Ne, b't') => Ok(w.opened(Open::Net)),
+        (Open::First, b'#' | b'a'..=b'z') => Err(Fault::Timetable),
+        _ => Err(Fault::NoNumber(w.count)),
     }
-}
-
-// The words with one more byte of `net`, which only a file's first word may be.
-fn letter(w: Words, b: u8) -> Words {
-    if w.first {
-        return first_letter(w, b);
-    }
-    if w.open == 2 {
-        if b == b'e' {
-            return opened(w, 3, 0);
-        }
-    }
-    if w.open == 3 {
-        if b == b't' {
-            return opened(w, 4, 0);
-        }
-    }
-    faulty(w, NO_NUMBER)
 }
 
 // The words with one more digit.
-fn digit(w: Words, b: u8) -> Words {
-    if 1 < w.open {
-        return faulty(w, NO_NUMBER);
+fn digit(w: Words, b: u8) -> Result<Words, Fault> {
+    let value = match w.open {
+        Open::First | Open::Nothing => 0,
+        Open::Number(value) => value,
+        Open::N | Open::Ne | Open::Net => return Err(Fault::NoNumber(w.count)),
+    };
+    match u32::try_from(arguments::bytes::longer(value, b)) {
+        Ok(longer) => Ok(w.opened(Open::Number(longer))),
+        Err(_) => Err(Fault::TooLarge(w.count)),
     }
-    let value = arguments::bytes::longer(w.value, b);
-    if value < 4294967296 {
-        return opened(w, 1, value as u32);
-    }
-    faulty(w, TOO_LARGE)
 }
 
 // Goes on with one more byte.
-fn feed(tables: &mut [u32], w: Words, b: u8) -> Words {
-    if w.fault != 0 {
-        return w;
-    }
+fn feed(tables: &mut [u32], w: Words, b: u8) -> Result<Words, Fault> {
     match b {
-        // a space, and what ends a line
-        32 | 10 | 13 => return close(tables, w),
-        _ => {
-            if arguments::bytes::is_digit(b) {
-                return digit(w, b);
-            }
-            return letter(w, b);
-        }
+        b' ' | b'\n' | b'\r' => close(tables, w),
+        b'0'..=b'9' => digit(w, b),
+        _ => letter(w, b),
     }
 }
 
 // Goes on with a block of bytes.
-fn feed_all(tables: &mut [u32], words: Words, block: &[u8]) -> Words {
+fn feed_all(tables: &mut [u32], words: Words, block: &[u8]) -> Result<Words, Fault> {
     let mut w = words;
-    let mut i = 0;
-    while i < block.len() {
-        w = feed(tables, w, block[i]);
-        i += 1;
+    for b in block {
+        w = feed(tables, w, *b)?;
     }
-    w
+    Ok(w)
 }
 
-// Whether the file goes on, and the words up to there.
-#[derive(Clone, Copy)]
-struct Turn {
-    more: bool,
-    words: Words,
-}
-
-// Goes on with what one read gives.
-fn read_some(file: &mut impl Read, tables: &mut [u32], words: Words) -> Turn {
+// Reads the whole of an open file: how many words it has. A proved loop has to end, and nothing says that a file does: no run uses up
+// so many turns.
+fn read_all(file: &mut impl Read, tables: &mut [u32]) -> Result<usize, Fault> {
     let mut block = [0u8; 2048];
-    match file.read(&mut block) {
-        Ok(0) => Turn {
-            more: false,
-            words: close(tables, words),
-        },
-        Ok(n) => {
-            let w = feed_all(tables, words, &block[..n]);
-            Turn {
-                more: w.fault == 0,
-                words: w,
-            }
-        }
-        Err(_) => Turn {
-            more: false,
-            words: faulty(words, UNREAD),
-        },
-    }
-}
-
-// Reads the whole of an open file. A proved loop has to end, and nothing says that a file does: no run uses up so many turns.
-fn read_all(file: &mut impl Read, tables: &mut [u32]) -> Words {
-    let mut turn = Turn {
-        more: true,
-        words: new(),
+    let mut w = Words {
+        count: 0,
+        open: Open::First,
     };
     for _ in 0..u64::MAX {
-        if !turn.more {
-            return turn.words;
+        match file.read(&mut block) {
+            Ok(0) => break,
+            Ok(n) => w = feed_all(tables, w, &block[..n])?,
+            Err(_) => return Err(Fault::Unread),
         }
-        turn = read_some(file, tables, turn.words);
     }
-    turn.words
+    Ok(close(tables, w)?.count)
 }
 
-// Puts the words of the file into the tables. A name that is no UTF-8 is that of no file that can be read.
-pub fn load(rt: &impl Files, path: &[u8], tables: &mut [u32]) -> Words {
+// Puts the words of the file into the tables: how many they are. A name that is no UTF-8 is that of no file that can be read.
+pub fn load(rt: &impl Files, path: &[u8], tables: &mut [u32]) -> Result<usize, Fault> {
     let Ok(name) = str::from_utf8(path) else {
-        return faulty(new(), UNREAD);
+        return Err(Fault::Unread);
     };
     match fs::open(rt, name) {
         Ok(mut file) => read_all(&mut file, tables),
-        Err(_) => faulty(new(), UNREAD),
+        Err(_) => Err(Fault::Unread),
     }
 }
 
 // Says what stopped the reading. An error is that of the write which failed.
-pub fn print_fault(rt: &impl Print, path: &[u8], w: Words) -> io::Result<()> {
-    print::text(rt, b"tables: ")?;
+pub fn print_fault(rt: &impl Print, path: &[u8], fault: Fault) -> io::Result<()> {
+    print!(rt; "tables: ")?;
     print::text(rt, path)?;
-    if w.fault == UNREAD {
-        return print::text(rt, b" cannot be read\n");
-    }
-    if w.fault == TOO_MANY {
-        print::text(rt, b" has more than ")?;
-        print::number(rt, w.count as u64)?;
-        return print::text(
-            rt,
-            b" words, and this program has no room for more: link the library (see README)\n",
-        );
-    }
-    if w.fault == TIMETABLE {
-        return print::text(
-            rt,
-            b" has no number first: this looks like a timetable: tools/timetable.py turns it into tables\n",
-        );
-    }
-    print::text(rt, b" has, after ")?;
-    print::number(rt, w.count as u64)?;
-    if w.fault == TOO_LARGE {
-        return print::text(rt, b" words, a number above 4294967295\n");
-    }
-    print::text(rt, b" words, something that is no number\n")
+    println!(rt; "{fault}")
 }

@@ -11,7 +11,7 @@ use borrow.Author.Tests.{ltb-true, ltb-false}
 use lib.Dec.{ltb}
 use Rattle.base.proofs.Choice.{split}
 use Rattle.marks.specs.Marks.{keep, chosen_from, chosen, first_of}
-use Rattle.marks.specs.declared.Next.TheVariants.{At, Nothing}
+use Rattle.std.specs.Prelude.{None, Some}
 
 -- f takes none from a up to below b
 abbrev pub Clear : (ℕ → Bool) → ℕ → ℕ → Type 0
@@ -70,8 +70,8 @@ module _ (f : ℕ → Bool) where
         ∙ chosen_step s limit h
         ∙ ap (λ (b : Bool). keep b s (chosen f (s + 1) limit)) e
 
-    pub first_none : Clear f from limit → Nothing ≡ first_of (chosen f from limit)
+    pub first_none : Clear f from limit → None ≡ first_of (chosen f from limit)
     first_none c = sym (ap first_of (chosen_none c))
 
-    pub first_at : (s : ℕ) → from ≤ s → s < limit → Clear f from s → f s ≡ true → At s ≡ first_of (chosen f from limit)
+    pub first_at : (s : ℕ) → from ≤ s → s < limit → Clear f from s → f s ≡ true → Some s ≡ first_of (chosen f from limit)
     first_at s g h c e = sym (ap first_of (chosen_first s g h c e))

@@ -13,7 +13,7 @@ use lib.Count.{count_trailing_zeros}
 use Rattle.base.specs.Bits.{bit}
 use Rattle.base.proofs.Bits.{bit_shr, bit_zero, bit_high, trailing_below, trailing_at}
 use Rattle.marks.specs.Marks.{marked, marked_stops, first_of}
-use Rattle.marks.specs.declared.Next.TheVariants.{At, Nothing}
+use Rattle.std.specs.Prelude.{None, Some}
 use Rattle.marks.proofs.Chosen.{Clear, clear_join, clear_less, first_none, first_at}
 
 -- stop a, digit k of its word, has the first marked stop of that word z stops further on
@@ -63,8 +63,8 @@ module _ (ws : List ℕ) (from limit a k z : ℕ) (c : Clear (marked ws) from a)
   before : Clear (marked ws) from (a + z)
   before = clear_join (marked ws) from a (a + z) c f.none_before
 
-  pub answer_at : from ≤ a → a + z < limit → At (a + z) ≡ first_of (marked_stops ws from limit)
+  pub answer_at : from ≤ a → a + z < limit → Some (a + z) ≡ first_of (marked_stops ws from limit)
   answer_at g h = first_at (marked ws) from limit (a + z) (omega arith) h before f.is_marked
 
-  pub answer_none : limit ≤ a + z → Nothing ≡ first_of (marked_stops ws from limit)
+  pub answer_none : limit ≤ a + z → None ≡ first_of (marked_stops ws from limit)
   answer_none h = first_none (marked ws) from limit (clear_less (marked ws) from (a + z) limit h before)

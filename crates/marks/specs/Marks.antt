@@ -1,10 +1,8 @@
 -- Marked stops, 64 to a word: whether one is marked, the words with one more, the marked stops of a range.
 -- Assumes nothing.
-use Rattle.std.specs.Prelude.{ℕ, zero, suc, ◌-◌, ◌*◌, ◌/◌, ◌%◌, ◌^◌, ◌<◌, ◌≡◌, Bool, true, false, List, [], ◌∷◌, length, get_or, set, eqb}
+use Rattle.std.specs.Prelude.{ℕ, zero, suc, ◌-◌, ◌*◌, ◌/◌, ◌%◌, ◌^◌, ◌<◌, ◌≡◌, Bool, true, false, List, [], ◌∷◌, length, get_or, set, eqb, Option, None, Some}
 use Rattle.std.specs.Int.Bits.{bit_or}
 use Rattle.base.specs.Bits.{bit}
-use Rattle.marks.specs.declared.Next.{Next}
-use Rattle.marks.specs.declared.Next.TheVariants.{At, Nothing}
 
 -- "64 stops to a word": stop s is digit s % 64 of word s / 64
 unfoldable pub marked : List ℕ → ℕ → Bool
@@ -38,6 +36,6 @@ abbrev pub marked_stops : List ℕ → ℕ → ℕ → List ℕ
 marked_stops ws from limit = chosen (marked ws) from limit
 
 -- the first of a list of stops
-abbrev pub first_of : List ℕ → Next
-first_of [] = Nothing
-first_of (s ∷ l) = At s
+abbrev pub first_of : List ℕ → Option ℕ
+first_of [] = None
+first_of (s ∷ l) = Some s

@@ -1,7 +1,7 @@
 -- The networks of the worked answers beyond N and M, built as these are: the X's of oracle/cases.txt (X9a, where an area is refused, is not asked
 -- there), then others with a letter.
 use Prim.Native.Nat.{ℕ, zero, suc}
-use mathlib.Core.Option.{Option, none, some}
+use Rattle.std.specs.Prelude.{Option, None, Some}
 use mathlib.Core.List.{List, [], ◌∷◌}
 use Rattle.model.specs.Tables.{Foot, Net}
 use Rattle.model.proofs.Examples.{Trip, Route, net}
@@ -109,12 +109,12 @@ X9a = with_places 3 (one (0 ∷ 1 ∷ []) ((1, 1) ∷ (2, 2) ∷ []) ∷ []) [] 
 -- areas that name a station, and its only child
 unfoldable pub X9b : Net
 unfolding with_places
-X9b = with_places 3 (one (0 ∷ 1 ∷ []) ((1, 1) ∷ (2, 2) ∷ []) ∷ []) (some 2 ∷ []) ((2 ∷ []) ∷ (0 ∷ []) ∷ [])
+X9b = with_places 3 (one (0 ∷ 1 ∷ []) ((1, 1) ∷ (2, 2) ∷ []) ∷ []) (Some 2 ∷ []) ((2 ∷ []) ∷ (0 ∷ []) ∷ [])
 
 -- a station that is served itself; its child is not
 unfoldable pub X10 : Net
 unfolding with_places
-X10 = with_places 3 (one (2 ∷ 1 ∷ []) ((1, 1) ∷ (2, 2) ∷ []) ∷ []) (some 2 ∷ []) []
+X10 = with_places 3 (one (2 ∷ 1 ∷ []) ((1, 1) ∷ (2, 2) ∷ []) ∷ []) (Some 2 ∷ []) []
 
 -- a footpath that leads to where another begins
 unfoldable pub X11 : Net
@@ -171,7 +171,7 @@ X22 = with_feet 2 (one (1 ∷ 0 ∷ []) ((1, 2) ∷ (7, 10) ∷ []) ∷ []) ((fo
 -- two children of a station that are reached at one moment
 unfoldable pub X23 : Net
 unfolding with_places
-X23 = with_places 2 (one (0 ∷ 1 ∷ []) ((1, 1) ∷ (1, 1) ∷ []) ∷ one (0 ∷ 0 ∷ []) ((1, 1) ∷ (1, 1) ∷ []) ∷ []) (some 1 ∷ some 1 ∷ []) []
+X23 = with_places 2 (one (0 ∷ 1 ∷ []) ((1, 1) ∷ (1, 1) ∷ []) ∷ one (0 ∷ 0 ∷ []) ((1, 1) ∷ (1, 1) ∷ []) ∷ []) (Some 1 ∷ Some 1 ∷ []) []
 
 -- stops 1, 2 and 3 are station 4's, 5 is station 6's, 7 is station 8's; 0 and 9 have none. No trip passes 3, whose route has none, nor 5, nor 9.
 -- The areas name station 4, station 6, stations 8 and 4, stations 4 and 8
@@ -184,18 +184,18 @@ P =
     ∷ one (0 ∷ 7 ∷ []) ((40, 40) ∷ (50, 50) ∷ [])
     ∷ one (0 ∷ 1 ∷ []) ((40, 40) ∷ (50, 50) ∷ [])
     ∷ route (3 ∷ 0 ∷ []) [] ∷ [])
-    (none ∷ some 4 ∷ some 4 ∷ some 4 ∷ none ∷ some 6 ∷ none ∷ some 8 ∷ [])
+    (None ∷ Some 4 ∷ Some 4 ∷ Some 4 ∷ None ∷ Some 6 ∷ None ∷ Some 8 ∷ [])
     ((4 ∷ []) ∷ (6 ∷ []) ∷ (8 ∷ 4 ∷ []) ∷ (4 ∷ 8 ∷ []) ∷ [])
 
 -- both stops of a station on one route, the higher number first
 unfoldable pub C : Net
 unfolding with_places
-C = with_places 3 (one (1 ∷ 0 ∷ []) ((10, 10) ∷ (20, 20) ∷ []) ∷ []) (some 2 ∷ some 2 ∷ []) []
+C = with_places 3 (one (1 ∷ 0 ∷ []) ((10, 10) ∷ (20, 20) ∷ []) ∷ []) (Some 2 ∷ Some 2 ∷ []) []
 
 -- both stops of a station on one route, behind another stop, the lower number first
 unfoldable pub D : Net
 unfolding with_places
-D = with_places 4 (one (2 ∷ 0 ∷ 1 ∷ []) ((10, 10) ∷ (20, 20) ∷ (30, 30) ∷ []) ∷ []) (some 3 ∷ some 3 ∷ []) []
+D = with_places 4 (one (2 ∷ 0 ∷ 1 ∷ []) ((10, 10) ∷ (20, 20) ∷ (30, 30) ∷ []) ∷ []) (Some 3 ∷ Some 3 ∷ []) []
 
 -- a transfer and a walk between the same stops, the walk shorter
 unfoldable pub W : Net
@@ -213,7 +213,7 @@ unfolding with_places
 U =
     with_places 4
     (route (0 ∷ 1 ∷ 2 ∷ []) (((10, 10) ∷ (20, 20) ∷ (30, 30) ∷ []) ∷ ((12, 12) ∷ (25, 25) ∷ (40, 40) ∷ []) ∷ []) ∷ [])
-    (none ∷ some 3 ∷ some 3 ∷ none ∷ []) []
+    (None ∷ Some 3 ∷ Some 3 ∷ None ∷ []) []
 
 -- two trips of one route, and a ride on from each of its last stops
 unfoldable pub Y : Net

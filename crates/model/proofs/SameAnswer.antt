@@ -3,14 +3,13 @@
 use Prim.Native.Nat.{ℕ, zero, suc, ◌<◌}
 use mathlib.Core.Path.{◌≡◌, refl, sym, ap, ◌∙◌}
 use mathlib.Core.Bool.{Bool, true, false, ◌&&◌}
-use mathlib.Core.Option.{Option, none, some}
+use Rattle.std.specs.Prelude.{Option, None, Some}
 use mathlib.Core.List.{List, [], ◌∷◌, Memᴰ}
 use native.Mathlib.Omega.{arith}
 use lib.ListN.{length}
 use borrow.Author.Tests.{ltb-true}
 use Rattle.base.proofs.Choice.{split, and_left, and_right}
 use Rattle.base.specs.Each.{Each, nil, cons}
-use Rattle.model.specs.declared.Answer.TheVariants.{Refused}
 use Rattle.model.specs.declared.Location.{Location}
 use Rattle.model.specs.declared.Location.TheVariants.{Stop, Area}
 use Rattle.model.specs.declared.Query.{Query}
@@ -18,7 +17,7 @@ use Rattle.model.specs.Tables.{Net}
 use Rattle.model.specs.Lists.{gather}
 use Rattle.model.specs.State.{Task}
 use Rattle.model.specs.Places.{exists, stops_of_stop, served_of, stops_of_area, place_stops, barren}
-use Rattle.model.specs.Answer.{task_of, refusal, lowest, searched, legs_of, reply, unless, answer}
+use Rattle.model.specs.Answer.{task_of, refusal, lowest, searched, legs_of, reply, unless, refused_by, answer}
 use Rattle.model.specs.Left.{placed, workspace_of, written, journey_left}
 use Rattle.model.specs.Round.{listed}
 use Rattle.model.specs.Search.{search}
@@ -60,8 +59,8 @@ module _ {n m : Net} (e : Same n m) (f : SamePlaces n m) (ok : Sound n) (places 
 
   stop_same : (s : ℕ) → s < n.stops → (o : Option ℕ) → n.station s ≡ o → stops_of_stop n s o ≡ stops_of_stop m s o
   unfolding stops_of_stop
-  stop_same s h none g = rw (f.children s h)
-  stop_same s h (some p) g = f.children p (places.station_in s p h g)
+  stop_same s h None g = rw (f.children s h)
+  stop_same s h (Some p) g = f.children p (places.station_in s p h g)
 
   place_same : (l : Location) → exists n l ≡ true → place_stops n l ≡ place_stops m l
   unfolding place_stops exists
@@ -134,13 +133,13 @@ module _ {n m : Net} (e : Same n m) (f : SamePlaces n m) (ok : Sound n) (places 
     answer_same fault sized room = go (lowest fault sized n q) refl
       where
         refused : (k : ℕ) → lowest fault sized n q ≡ suc k
-            → unless Refused (reply room (searched n q).times.target (legs_of n q)) (lowest fault sized n q)
-            ≡ unless Refused (reply room (searched m q).times.target (legs_of m q)) (lowest fault sized m q)
+            → unless refused_by (reply room (searched n q).times.target (legs_of n q)) (lowest fault sized n q)
+            ≡ unless refused_by (reply room (searched m q).times.target (legs_of m q)) (lowest fault sized m q)
         refused k g = let h : lowest fault sized m q ≡ suc k = sym (lowest_same fault sized) ∙ g in rw (g, h, unless)
 
         go : (k : ℕ) → lowest fault sized n q ≡ k
-            → unless Refused (reply room (searched n q).times.target (legs_of n q)) (lowest fault sized n q)
-            ≡ unless Refused (reply room (searched m q).times.target (legs_of m q)) (lowest fault sized m q)
+            → unless refused_by (reply room (searched n q).times.target (legs_of n q)) (lowest fault sized n q)
+            ≡ unless refused_by (reply room (searched m q).times.target (legs_of m q)) (lowest fault sized m q)
         go zero g =
             let t = there_is (unrefused fault sized n q g) in
             rw (lowest_same fault sized, searched_same t, legs_same t)

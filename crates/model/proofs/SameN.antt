@@ -3,7 +3,7 @@ use Prim.Native.Nat.{ℕ}
 use mathlib.Core.Path.{◌≡◌, refl}
 use mathlib.Core.Bool.{Bool, true}
 use mathlib.Core.Logic.{◌≢◌}
-use mathlib.Core.Option.{none, some}
+use Rattle.std.specs.Prelude.{None, Some}
 use mathlib.Core.List.{List, [], ◌∷◌}
 use native.Mathlib.Omega.{arith}
 use lib.ListN.{get_or}
@@ -34,7 +34,7 @@ N_beyond = record {
   routes_of = λ s. get_or ((0 ∷ []) ∷ (0 ∷ []) ∷ (0 ∷ []) ∷ (1 ∷ []) ∷ (1 ∷ []) ∷ []) s (77 ∷ []);
   transfers = λ s. get_or ([] ∷ [] ∷ (record { to = 3; span = 30 } ∷ []) ∷ [] ∷ [] ∷ []) s (record { to = 77; span = 0 } ∷ []);
   walks = λ s. get_or ([] ∷ [] ∷ [] ∷ [] ∷ [] ∷ []) s (record { to = 77; span = 0 } ∷ []);
-  station = λ s. get_or (none ∷ none ∷ none ∷ none ∷ none ∷ []) s (some 77);
+  station = λ s. get_or (None ∷ None ∷ None ∷ None ∷ None ∷ []) s (Some 77);
   children = λ s. get_or ([] ∷ [] ∷ [] ∷ [] ∷ [] ∷ []) s (77 ∷ []);
   served = λ s. true;
   areas = 0;

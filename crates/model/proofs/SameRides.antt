@@ -1,22 +1,20 @@
 -- The rides of a round, over two networks that are the same as far as they exist.
 use Prim.Native.Nat.{ℕ, zero, suc, ◌-◌, ◌<◌}
 use mathlib.Core.Path.{◌≡◌, refl, ap, ◌∙◌}
-use mathlib.Core.Option.{Option, some, none}
+use Rattle.std.specs.Prelude.{Option, Some, None}
 use mathlib.Core.List.{List}
 use native.Mathlib.Omega.{arith}
 use native.Mathlib.Decide.{dec_lt}
 use lib.ListN.{get_or}
 use Rattle.base.proofs.Choice.{cond_elim}
 use Rattle.base.specs.Each.{Each, nil, cons}
-use Rattle.model.specs.declared.Aboard.{Aboard}
-use Rattle.model.specs.declared.Aboard.TheVariants.{On, Off}
 use Rattle.model.specs.declared.Direction.{Direction}
 use Rattle.model.specs.declared.Direction.TheVariants.{Departure, Arrival}
 use Rattle.model.specs.Tables.{Net}
 use Rattle.model.specs.Lists.{upto, downto, gather, set_in}
 use Rattle.model.specs.Moments.{reading}
 use Rattle.model.specs.State.{Times}
-use Rattle.model.specs.Rides.{reach, leave, first_trip, last_trip, catch, allows, boarded, board, alight, scan, course, rides}
+use Rattle.model.specs.Rides.{Aboard, reach, leave, first_trip, last_trip, catch, allows, boarded, board, alight, scan, course, rides}
 use Rattle.model.proofs.Rides.{upto_below, Caught, Of, just, caught}
 use Rattle.model.specs.Same.{Same}
 
@@ -27,11 +25,11 @@ record Seat (n : Net) (r v b : ℕ) : Type 0 where
   trip : v ≡ n.trip_at r place
   inside : b < n.positions r
 
-data Seated (n : Net) (r : ℕ) : Aboard → Type 0 where
-  none_yet : Seated n r Off
-  seated : {v b : ℕ} → Seat n r v b → Seated n r (On v b)
+data Seated (n : Net) (r : ℕ) : Option Aboard → Type 0 where
+  none_yet : Seated n r None
+  seated : {v b : ℕ} → Seat n r v b → Seated n r (Some (record { trip = v; since = b }))
 
-board_seated : (d : Direction) (n : Net) (prev : List ℕ) (r p : ℕ) (a : Aboard) → p < n.positions r → Seated n r a
+board_seated : (d : Direction) (n : Net) (prev : List ℕ) (r p : ℕ) (a : Option Aboard) → p < n.positions r → Seated n r a
     → Seated n r (board d n prev r p a)
 unfolding board boarded
 board_seated d n prev r p a hp z =
@@ -39,8 +37,8 @@ board_seated d n prev r p a hp z =
     cond_elim (Seated n r) (allows d n x p a) _ _ (λ e. go (catch d n r p x) (caught n r p x d)) (λ e. z)
   where
     go : (o : Option ℕ) → Of (Caught d n r p (reading d (get_or prev (n.stop_at r p) 0))) o → Seated n r (boarded p a o)
-    go none l = z
-    go (some v) (just c) = seated (record { place = c.place; within = c.trips; trip = c.trip; inside = hp })
+    go None l = z
+    go (Some v) (just c) = seated (record { place = c.place; within = c.trips; trip = c.trip; inside = hp })
 
 downto_below : (p b : ℕ) → p < b → Each (λ i. i < b) (downto p)
 unfolding downto
@@ -103,10 +101,10 @@ module _ {n m : Net} (e : Same n m) where
         first_same (upto_below (n.trips r) 0 (n.trips r) (omega arith))
         ∙ ap (λ (k : ℕ). first_trip m r p x (upto k 0)) (e.trips r hr)
     catch_same Arrival =
-        last_same none (upto_below (n.trips r) 0 (n.trips r) (omega arith))
-        ∙ ap (λ (k : ℕ). last_trip m r p x (upto k 0) none) (e.trips r hr)
+        last_same None (upto_below (n.trips r) 0 (n.trips r) (omega arith))
+        ∙ ap (λ (k : ℕ). last_trip m r p x (upto k 0) None) (e.trips r hr)
 
-    allows_same : (d : Direction) {a : Aboard} → Seated n r a → allows d n x p a ≡ allows d m x p a
+    allows_same : (d : Direction) {a : Option Aboard} → Seated n r a → allows d n x p a ≡ allows d m x p a
     unfolding allows
     allows_same Departure none_yet = refl
     allows_same Departure (seated z) = rw (departure_same hr z.within z.trip p hp)
@@ -114,14 +112,14 @@ module _ {n m : Net} (e : Same n m) where
     allows_same Arrival (seated z) = rw (arrival_same hr z.within z.trip p hp)
 
   module _ (d : Direction) (t : Times) (r : ℕ) (hr : r < n.routes) where
-    board_same : (p : ℕ) → p < n.positions r → {a : Aboard} → Seated n r a
+    board_same : (p : ℕ) → p < n.positions r → {a : Option Aboard} → Seated n r a
         → board d n t.prev r p a ≡ board d m t.prev r p a
     unfolding board
     board_same p hp {a} z =
         let x = reading d (get_or t.prev (m.stop_at r p) 0) in
         rw (e.stop_at_lem r p hr hp, allows_same r p x hr hp d z, catch_same r p x hr hp d)
 
-    alight_same : (p : ℕ) → p < n.positions r → {a : Aboard} → Seated n r a → alight d n t r p a ≡ alight d m t r p a
+    alight_same : (p : ℕ) → p < n.positions r → {a : Option Aboard} → Seated n r a → alight d n t r p a ≡ alight d m t r p a
     unfolding alight
     alight_same p hp none_yet = refl
     alight_same p hp (seated {v} {b} z) =
@@ -132,7 +130,7 @@ module _ {n m : Net} (e : Same n m) where
           leave_same hr z.within z.trip d b z.inside,
         )
 
-    scan_same : {ps : List ℕ} (a : Aboard) → Each (λ p. p < n.positions r) ps → Seated n r a
+    scan_same : {ps : List ℕ} (a : Option Aboard) → Each (λ p. p < n.positions r) ps → Seated n r a
         → scan d n t r ps a ≡ scan d m t r ps a
     unfolding scan
     scan_same a nil z = refl
@@ -148,9 +146,9 @@ module _ {n m : Net} (e : Same n m) where
         go Arrival = refl
 
     route_same : (mark : ℕ) → (d ≡ Arrival → mark < n.positions r)
-        → scan d n t r (course d n r mark) Off ≡ scan d m t r (course d m r mark) Off
+        → scan d n t r (course d n r mark) None ≡ scan d m t r (course d m r mark) None
     route_same mark h =
-        scan_same Off (course_below d n r mark h) none_yet ∙ ap (λ (ps : List ℕ). scan d m t r ps Off) (course_same mark)
+        scan_same None (course_below d n r mark h) none_yet ∙ ap (λ (ps : List ℕ). scan d m t r ps None) (course_same mark)
 
   -- the rides of a round whose chosen routes exist
   pub rides_same : (d : Direction) (t : Times)
@@ -158,5 +156,5 @@ module _ {n m : Net} (e : Same n m) where
       → rides d n t ≡ rides d m t
   unfolding rides
   rides_same d t h =
-      gather_same (λ r. scan d n t r (course d n r (get_or t.active r 0)) Off) (λ r. scan d m t r (course d m r (get_or t.active r 0)) Off) h
+      gather_same (λ r. scan d n t r (course d n r (get_or t.active r 0)) None) (λ r. scan d m t r (course d m r (get_or t.active r 0)) None) h
       (λ r z. route_same d t r z.0 (get_or t.active r 0) z.1)

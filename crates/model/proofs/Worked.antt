@@ -45,11 +45,12 @@
 use Prim.Native.Nat.{ℕ}
 use mathlib.Core.Path.{◌≡◌, refl}
 use mathlib.Core.Bool.{true, false}
-use mathlib.Core.Option.{none, some}
+use Rattle.std.specs.Prelude.{None, Some}
 use mathlib.Core.List.{List, [], ◌∷◌, ◌++◌}
 use lib.ListN.{replicate}
 use lib.Ieee.{Float, of_bits, binary32}
-use Rattle.model.specs.declared.Answer.TheVariants.{FailedToBuildRoute}
+use Rattle.std.specs.Prelude.{Err}
+use Rattle.model.specs.declared.Error.TheVariants.{FailedToBuildRoute}
 use Rattle.model.specs.declared.Leg.{Leg}
 use Rattle.model.specs.declared.LegType.TheVariants.{Transit, Transfer, Walk}
 use Rattle.model.specs.declared.Location.{Location}
@@ -203,7 +204,7 @@ pub worked :
     ∷ says P (departing Source 5 0 5) 100 is refused 10 0
     ∷ says P (departing Source 0 9 5) 100 is refused 10 0
     -- R11: 11, which no accepted tables lead to, gives nothing else
-    ∷ given FailedToBuildRoute is refused 11 0
+    ∷ given (Err FailedToBuildRoute) is refused 11 0
     -- R12: a journey that just fits, and a byte less
     ∷ says X6 (departing Source 0 0 7) 21 is found 32 0 0 21
     ∷ says X6 (departing Source 0 0 7) 20 is refused 12 21
@@ -349,7 +350,7 @@ pub worked :
         held_mark = false ∷ [];
         active = 0 ∷ [];
         mask = false ∷ [];
-        parents = some (ride 0 0 0 32 32) ∷ replicate 14 none;
+        parents = Some (ride 0 0 0 32 32) ∷ replicate 14 None;
       };
       origins = 0 ∷ [];
       goals = 0 ∷ [];

@@ -3,6 +3,7 @@
 use Prim.Native.Nat.{ℕ, zero, suc, ◌+◌, ◌-◌, ◌*◌, ◌≤◌, ◌<◌}
 use mathlib.Core.Path.{◌≡◌, refl, sym, ap, ◌∙◌}
 use mathlib.Core.Bool.{Bool, true, false}
+use Rattle.std.specs.Prelude.{None, Some}
 use mathlib.Core.List.{List}
 use native.Mathlib.Omega.{arith}
 use lib.ListN.{length, get_or}
@@ -15,7 +16,6 @@ use Rattle.csv_text.proofs.Texts.{same_text_lem}
 use Rattle.names.specs.Names.{place_among}
 use Rattle.names.specs.declared.Shelf.{Shelf}
 use Rattle.names.specs.Book.{slot_of, last_in, start_at, end_at, file_of, name_at, Book}
-use Rattle.names.specs.declared.Found.TheVariants.{At, Nothing}
 use Rattle.names.specs.Told.{found_as}
 
 module _ (cap : ℕ) (name : ℕ → List ℕ) (t : List ℕ) where
@@ -60,11 +60,8 @@ pub record Chase (first second : List ℕ) (shelf : Shelf) (w t : List ℕ) (p :
   pub few : p ≤ shelf.count
 
 module _ {first second : List ℕ} {shelf : Shelf} {w : List ℕ} (k : Book first second shelf w) where
-  pub head_room : {b : ℕ} → b < shelf.cap → b < length w
-  head_room h = omega (arith, k.room)
-
   -- no room, no name
-  pub none_found : (t : List ℕ) → shelf.cap < 1 → Nothing ≡ found_as (place_among (name_at first second shelf w) t shelf.count)
+  pub none_found : (t : List ℕ) → shelf.cap ≡ 0 → None ≡ found_as (place_among (name_at first second shelf w) t shelf.count)
   unfolding place_among found_as
   none_found t h = let z : shelf.count ≡ 0 = omega (arith, k.few) in rw z
 
@@ -82,45 +79,38 @@ module _ {first second : List ℕ} {shelf : Shelf} {w : List ℕ} (k : Book firs
 
   -- ---- the words of a name
   module _ {i r : ℕ} (known : i < shelf.count) (q : r ≡ shelf.cap + 3 * i) where
-    pub row_room : r < length w
-    row_room = omega (arith, k.few, k.room)
+    start_is : get_or w r 0 ≡ start_at shelf.cap w i
+    start_is = ap (λ (j : ℕ). get_or w j 0) q
 
-    pub row_room_1 : r + 1 < length w
-    row_room_1 = omega (arith, k.few, k.room)
+    end_is : get_or w (r + 1) 0 ≡ end_at shelf.cap w i
+    end_is = ap (λ (j : ℕ). get_or w (j + 1) 0) q
 
-    module _ {s u : ℕ} (es : s ≡ get_or w r 0) (eu : u ≡ get_or w (r + 1) 0) where
-      start_is : s ≡ start_at shelf.cap w i
-      start_is = es ∙ ap (λ (j : ℕ). get_or w j 0) q
+    pub name_ordered : get_or w r 0 ≤ get_or w (r + 1) 0
+    name_ordered = omega (arith, start_is, end_is, k.ordered i known)
 
-      end_is : u ≡ end_at shelf.cap w i
-      end_is = eu ∙ ap (λ (j : ℕ). get_or w (j + 1) 0) q
+    pub name_first : i < shelf.split → get_or w (r + 1) 0 ≤ length first
+    unfolding file_of
+    name_first h = let z = rw (lt-ltb i shelf.split h) at (k.inside i known) in omega (arith, end_is)
 
-      pub name_ordered : s ≤ u
-      name_ordered = omega (arith, start_is, end_is, k.ordered i known)
+    pub name_second : shelf.split ≤ i → get_or w (r + 1) 0 ≤ length second
+    unfolding file_of
+    name_second h = let z = rw (le-ltb i shelf.split h) at (k.inside i known) in omega (arith, end_is)
 
-      pub name_first : i < shelf.split → u ≤ length first
-      unfolding file_of
-      name_first h = let z = rw (lt-ltb i shelf.split h) at (k.inside i known) in omega (arith, end_is)
+    pub is_first : {y : Bool} (t : List ℕ) → y ≡ same_text t (part (get_or w r 0) (get_or w (r + 1) 0) first) → i < shelf.split
+        → y ≡ same_text t (name_at first second shelf w i)
+    unfolding name_at file_of
+    is_first t e h = e ∙ rw (start_is, end_is, lt-ltb i shelf.split h)
 
-      pub name_second : shelf.split ≤ i → u ≤ length second
-      unfolding file_of
-      name_second h = let z = rw (le-ltb i shelf.split h) at (k.inside i known) in omega (arith, end_is)
-
-      pub is_first : {y : Bool} (t : List ℕ) → y ≡ same_text t (part s u first) → i < shelf.split
-          → y ≡ same_text t (name_at first second shelf w i)
-      unfolding name_at file_of
-      is_first t e h = e ∙ rw (start_is, end_is, lt-ltb i shelf.split h)
-
-      pub is_second : {y : Bool} (t : List ℕ) → y ≡ same_text t (part s u second) → shelf.split ≤ i
-          → y ≡ same_text t (name_at first second shelf w i)
-      unfolding name_at file_of
-      is_second t e h = e ∙ rw (start_is, end_is, le-ltb i shelf.split h)
+    pub is_second : {y : Bool} (t : List ℕ) → y ≡ same_text t (part (get_or w r 0) (get_or w (r + 1) 0) second) → shelf.split ≤ i
+        → y ≡ same_text t (name_at first second shelf w i)
+    unfolding name_at file_of
+    is_second t e h = e ∙ rw (start_is, end_is, le-ltb i shelf.split h)
 
 module _ {first second : List ℕ} {shelf : Shelf} {w t : List ℕ} {p : ℕ} (k : Book first second shelf w) (c : Chase first second shelf w t p) where
   place : place_among (name_at first second shelf w) t shelf.count ≡ place_among (name_at first second shelf w) t p
   place = c.same ∙ skip shelf.cap (name_at first second shelf w) t c.upto ∙ ap (place_among (name_at first second shelf w) t) (sym c.at)
 
-  pub chase_none : p ≤ 0 → Nothing ≡ found_as (place_among (name_at first second shelf w) t shelf.count)
+  pub chase_none : p ≤ 0 → None ≡ found_as (place_among (name_at first second shelf w) t shelf.count)
   unfolding place_among found_as
   chase_none h = let z : p ≡ 0 = omega arith in sym (ap found_as (place ∙ ap (place_among (name_at first second shelf w) t) z))
 
@@ -135,7 +125,7 @@ module _ {first second : List ℕ} {shelf : Shelf} {w t : List ℕ} {p : ℕ} (k
     chase_known = omega (arith, falls.0, c.below)
 
     pub chase_found : {y : Bool} → y ≡ same_text t (name_at first second shelf w i) → y ≡ true
-        → At i ≡ found_as (place_among (name_at first second shelf w) t shelf.count)
+        → Some i ≡ found_as (place_among (name_at first second shelf w) t shelf.count)
     unfolding place_among found_as
     chase_found f g =
         let z : same_text t (name_at first second shelf w i) ≡ true = sym f ∙ g in
@@ -143,9 +133,6 @@ module _ {first second : List ℕ} {shelf : Shelf} {w t : List ℕ} {p : ℕ} (k
         sym (ap found_as (place ∙ y))
 
     module _ {r : ℕ} (q : r ≡ shelf.cap + 3 * i) where
-      pub row_room_2 : r + 2 < length w
-      row_room_2 = omega (arith, chase_known, k.few, k.room)
-
       after : {p' : ℕ} → p' ≡ get_or w (r + 2) 0 → p' ≡ last_in shelf.cap (name_at first second shelf w) (slot_of shelf.cap t) i
       after v =
           v ∙ ap (λ (j : ℕ). get_or w (j + 2) 0) q ∙ k.nexts i chase_known

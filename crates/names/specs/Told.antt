@@ -1,8 +1,6 @@
 -- A name's number as the code answers with it.
-use Rattle.std.specs.Prelude.{ℕ, zero, suc}
-use Rattle.names.specs.declared.Found.{Found}
-use Rattle.names.specs.declared.Found.TheVariants.{At, Nothing}
+use Rattle.std.specs.Prelude.{ℕ, zero, suc, Option, None, Some}
 
-unfoldable pub found_as : ℕ → Found
-found_as zero = Nothing
-found_as (suc i) = At i
+unfoldable pub found_as : ℕ → Option ℕ
+found_as zero = None
+found_as (suc i) = Some i

@@ -1,7 +1,7 @@
 // Names of two texts that are lent as bytes, numbered in the order of their first appearance. Nothing is copied: a name is where it stands.
 #![tactic(auto)]
 
-ghost use Rattle.std.specs.Prelude.{◌≡◌, ◌+◌, ◌*◌, ◌≤◌, ◌<◌, length, get_or};
+ghost use Rattle.std.specs.Prelude.{◌≡◌, ◌+◌, ◌*◌, ◌≤◌, ◌<◌, length};
 ghost use Rattle.csv_text.specs.Part.{part};
 ghost use Rattle.csv_text.specs.Texts.{same_text};
 ghost use Rattle.names.specs.Names.{place_among};
@@ -16,43 +16,17 @@ pub struct Shelf {
     pub count: u32,
 }
 
-// A name's number, or none.
-#[derive(Clone, Copy)]
-pub enum Found {
-    At(u32),
-    Nothing,
-}
-
-// A byte of the text.
-fn byte(bytes: &[u8], i: usize) -> u64
-    requires { i < length bytes.now }
-    ensures { (result ≡ get_or bytes.now i 0) × (result < 256) }
-{
-    bytes[i] as u64
-}
-
-// The slot of the text from a up to below e.
-fn slot(bytes: &[u8], a: usize, e: usize, cap: u32) -> usize
-    requires a_le_e { (a ≤ e) × (e ≤ length bytes.now) }
-    requires cap_nonzero { 0 < cap }
-    ensures value { result ≡ slot_of cap (part a e bytes.now) }
+// The slot of a text.
+fn slot(text: &[u8], cap: u32) -> usize
+    requires { 0 < cap }
+    ensures value { result ≡ slot_of cap text.now }
     ensures upper_bound { result < cap }
 {
     let mut h: u64 = 0;
-    let mut i = a;
-    while i < e {
-        h = (h * 31 + byte(bytes, i)) % 4294967296;
-        i += 1;
+    for &x in text {
+        h = (h * 31 + u64::from(x)) % 4294967296;
     }
-    (h % (cap as u64)) as usize
-}
-
-// A word of the book.
-fn word(book: &[u32], i: usize) -> u32
-    requires { i < length book.now }
-    ensures { result ≡ get_or book.now i 0 }
-{
-    book[i]
+    (h % u64::from(cap)) as usize
 }
 
 // Where the three words of name i begin.
@@ -79,35 +53,42 @@ pub fn is_name(
         (name_at first.now second.now shelf book.now i) }
 {
     let row = row_of(shelf.cap, i);
-    let s = word(book, row) as usize;
-    let t = word(book, row + 1) as usize;
+    let s = book[row] as usize;
+    let t = book[row + 1] as usize;
     if i < shelf.split {
-        return csv_text::same(second, a, e, first, s, t);
+        csv_text::same(second, a, e, first, s, t)
+    } else {
+        csv_text::same(second, a, e, second, s, t)
     }
-    csv_text::same(second, a, e, second, s, t)
 }
 
 // The number of the text of the second file among the names that the book holds.
-pub fn find(first: &[u8], second: &[u8], book: &[u32], shelf: Shelf, a: usize, e: usize) -> Found
+pub fn find(
+    first: &[u8],
+    second: &[u8],
+    book: &[u32],
+    shelf: Shelf,
+    a: usize,
+    e: usize,
+) -> Option<u32>
     requires book { Book first.now second.now shelf book.now }
     requires a_le_e { (a ≤ e) × (e ≤ length second.now) }
     ensures { result ≡ found_as (place_among (name_at first.now second.now shelf book.now)
         (part a e second.now) shelf.count) }
 {
-    if shelf.cap < 1 {
-        return Found::Nothing;
+    if shelf.cap == 0 {
+        return None;
     }
-    let b = slot(second, a, e, shelf.cap);
-    let mut p = word(book, b);
+    let mut p = book[slot(&second[a..e], shelf.cap)];
+    // Stays a while: each name says which one is looked at next.
     while 0 < p {
         let i = p - 1;
         if is_name(first, second, book, shelf, i, a, e) {
-            return Found::At(i);
+            return Some(i);
         }
-        let row = row_of(shelf.cap, i);
-        p = word(book, row + 2);
+        p = book[row_of(shelf.cap, i) + 2];
     }
-    Found::Nothing
+    None
 }
 
 // Puts the text of the second file behind the names.
@@ -122,8 +103,8 @@ pub fn add(first: &[u8], second: &[u8], book: &mut [u32], shelf: Shelf, a: u32, 
 {
     let cap = shelf.cap;
     let n = shelf.count;
-    let b = slot(second, a as usize, e as usize, cap);
-    let last = word(book, b);
+    let b = slot(&second[a as usize..e as usize], cap);
+    let last = book[b];
     let row = row_of(cap, n);
     book[row] = a;
     book[row + 1] = e;
@@ -136,10 +117,5 @@ pub fn clear(book: &mut [u32], cap: u32)
     requires { 4 * cap ≤ length book.old }
     ensures { Empty cap book.old book.new }
 {
-    let e = cap as usize;
-    let mut i = 0;
-    while i < e {
-        book[i] = 0;
-        i += 1;
-    }
+    book[..cap as usize].fill(0);
 }

@@ -2,69 +2,93 @@
 -- Assumes nothing.
 use Prim.Native.Nat.{ℕ, ◌+◌, ◌-◌, ◌*◌, ◌≤◌, ◌<◌}
 use mathlib.Core.Path.{◌≡◌, refl, sym, ap, ◌∙◌}
-use mathlib.Core.Option.{Option, none, some}
-use mathlib.Core.List.{List, ◌∷◌}
+use mathlib.Core.Bool.{true, cond}
+use Rattle.std.specs.Prelude.{Option, None, Some}
+use mathlib.Core.List.{List, [], ◌∷◌}
 use native.Mathlib.Omega.{arith}
-use lib.ListN.{length, get_or}
-use borrow.Author.Tests.{le-leb, lt-leb}
-use Rattle.csv_text.specs.Part.{part}
-use Rattle.csv_text.proofs.Parts.{part_step, part_none}
-use Rattle.numbers.specs.declared.Number.TheVariants.{Is, Nothing}
+use lib.ListN.{length, get_or, drop, drop_of_length-le}
+use lib.Seq.{drop-cons}
+use native.Mathlib.Numerals.{add-one}
+use lib.Dec.{leb}
+use borrow.Author.Tests.{le-leb, lt-leb, leb-true}
+use Rattle.base.proofs.Choice.{split}
+use Rattle.csv_text.specs.There.{if_there}
 use Rattle.numbers.specs.Decimal.{decimal_from, decimal}
-use Rattle.numbers.specs.Told.{told_number}
 
-pub decimal_empty : (b : List ℕ) (a e : ℕ) → e ≤ a → Nothing ≡ told_number (decimal (part a e b))
-unfolding decimal told_number
-decimal_empty b a e h = rw (part_none b a e h)
+-- ---- one digit
+module _ (x : ℕ) where
+  pub digit_is : {d : ℕ} → 48 ≤ x → x ≤ 57 → d ≡ x - 48 → Some d ≡ decimal (x ∷ [])
+  unfolding decimal decimal_from
+  digit_is h k e =
+      let z : 0 * 10 + (x - 48) ≡ x - 48 = omega arith in
+      rw (le-leb 48 x h, le-leb x 57 k, z, le-leb (x - 48) 4_294_967_295 (omega arith), e)
 
-decimal_some : (b : List ℕ) (a e : ℕ) → a < e → e ≤ length b → decimal (part a e b) ≡ decimal_from 0 (part a e b)
-unfolding decimal decimal_from
-decimal_some b a e h k = rw (part_step b a e h k)
+  pub digit_low : x < 48 → None ≡ decimal (x ∷ [])
+  unfolding decimal decimal_from
+  digit_low h = rw (lt-leb 48 x h)
 
-pub record Reads (b : List ℕ) (a e v i : ℕ) : Type 0 where
-  pub high : i ≤ e
-  pub inside : e ≤ length b
-  pub some_digit : a < e
-  pub small : v ≤ 4_294_967_295
-  rest : decimal_from v (part i e b) ≡ decimal_from 0 (part a e b)
+  pub digit_high : 57 < x → None ≡ decimal (x ∷ [])
+  unfolding decimal decimal_from
+  digit_high h = rw (le-leb 48 x (omega arith), lt-leb x 57 h)
 
-pub reads_start : {b : List ℕ} {a e : ℕ} → a < e → e ≤ length b → Reads b a e 0 a
-reads_start h k = record { high = omega arith; inside = k; some_digit = h; small = omega arith; rest = refl }
+-- a digit before others
+pub digit_first : (v x : ℕ) (b : List ℕ) → decimal_from v (x ∷ b)
+    ≡ if_there (decimal (x ∷ [])) (λ d. cond (leb (v * 10 + d) 4_294_967_295) (decimal_from (v * 10 + d) b) None)
+unfolding decimal decimal_from if_there
+digit_first v x b =
+    split (leb 48 x)
+    (λ l.
+    split (leb x 57)
+    (λ m.
+    let most = leb-true x 57 m in
+    let z : 0 * 10 + (x - 48) ≡ x - 48 = omega arith in
+    let s : leb (x - 48) 4_294_967_295 ≡ true = le-leb (x - 48) 4_294_967_295 (omega arith) in
+    rw (l, m, z, s))
+    (λ m. rw (l, m)))
+    (λ l. rw l)
 
-module _ {b : List ℕ} {a e v i : ℕ} (r : Reads b a e v i) where
-  whole : decimal_from v (part i e b) ≡ decimal (part a e b)
-  whole = r.rest ∙ sym (decimal_some b a e r.some_digit r.inside)
+-- ---- all of them
+pub decimal_empty : (b : List ℕ) → length b ≡ 0 → None ≡ decimal b
+unfolding decimal
+decimal_empty [] h = refl
+decimal_empty (x ∷ b) h = absurd (omega arith)
 
-  told : (o : Option ℕ) → decimal_from v (part i e b) ≡ o → told_number o ≡ told_number (decimal (part a e b))
-  told o q = ap told_number (sym q ∙ whole)
+pub record Reads (b : List ℕ) (v i : ℕ) : Type 0 where
+  rest : decimal_from v (drop i b) ≡ decimal b
 
-  module _ (h : i < e) {x : ℕ} (q : (x ≡ get_or b i 0) × (x < 256)) where
-    byte_is : part i e b ≡ x ∷ part (i + 1) e b
-    byte_is = part_step b i e h r.inside ∙ ap (λ (y : ℕ). y ∷ part (i + 1) e b) (sym q.0)
+pub reads_start : {b : List ℕ} → (length b ≡ 0 → ⊥) → Reads b 0 0
+unfolding decimal
+reads_start {b = []} h = absurd (h refl)
+reads_start {b = x ∷ b} h = record { rest = refl }
 
-    pub reads_low : x < 48 → Nothing ≡ told_number (decimal (part a e b))
-    unfolding decimal_from told_number
-    reads_low l = told none (rw (byte_is, lt-leb 48 x l))
+module _ {b : List ℕ} {v i : ℕ} (r : Reads b v i) where
+  module _ (h : i < length b) where
+    here : decimal b
+        ≡ if_there (decimal (get_or b i 0 ∷ [])) (λ d. cond (leb (v * 10 + d) 4_294_967_295) (decimal_from (v * 10 + d) (drop (i + 1) b)) None)
+    here =
+        sym r.rest ∙ ap (decimal_from v) (rw (drop-cons b i 0 h, add-one)) ∙ digit_first v (get_or b i 0) (drop (i + 1) b)
 
-    pub reads_high : 48 ≤ x → 57 < x → Nothing ≡ told_number (decimal (part a e b))
-    unfolding decimal_from told_number
-    reads_high l m = told none (rw (byte_is, le-leb 48 x l, lt-leb x 57 m))
+    pub reads_no_digit : None ≡ decimal (get_or b i 0 ∷ []) → None ≡ decimal b
+    unfolding if_there
+    reads_no_digit n = rw (here, ← n)
 
-    module _ (l : 48 ≤ x) (m : x ≤ 57) {w : ℕ} (c : w ≡ v * 10 + (x - 48)) where
-      pub reads_large : 4294967295 < w → Nothing ≡ told_number (decimal (part a e b))
-      unfolding decimal_from told_number
-      reads_large n = told none (rw (byte_is, le-leb 48 x l, le-leb x 57 m, ← c, lt-leb w 4_294_967_295 n))
+    pub reads_large : {d : ℕ} → Some d ≡ decimal (get_or b i 0 ∷ []) → 4294967295 < v * 10 + d → None ≡ decimal b
+    unfolding if_there
+    reads_large {d} s l = rw (here, ← s, lt-leb (v * 10 + d) 4_294_967_295 l)
 
-      pub reads_on : w ≤ 4294967295 → Reads b a e w (i + 1)
-      unfolding decimal_from
-      reads_on n = record {
-        high = omega arith;
-        inside = r.inside;
-        some_digit = r.some_digit;
-        small = n;
-        rest = sym (rw (byte_is, le-leb 48 x l, le-leb x 57 m, ← c, le-leb w 4_294_967_295 n)) ∙ r.rest;
-      }
+    -- ten times the value is too large already, whatever the digit
+    pub reads_tens_large : 4294967295 < v * 10 → None ≡ decimal b
+    unfolding if_there
+    reads_tens_large l = sym (here ∙ any (decimal (get_or b i 0 ∷ [])))
+      where
+        any : (o : Option ℕ) → if_there o (λ d. cond (leb (v * 10 + d) 4_294_967_295) (decimal_from (v * 10 + d) (drop (i + 1) b)) None) ≡ None
+        any None = refl
+        any (Some d) = rw (lt-leb (v * 10 + d) 4_294_967_295 (omega arith))
 
-  pub reads_end : e ≤ i → Is v ≡ told_number (decimal (part a e b))
-  unfolding decimal_from told_number
-  reads_end h = told (some v) (rw (part_none b i e h))
+    pub reads_on : {d w : ℕ} → Some d ≡ decimal (get_or b i 0 ∷ []) → w ≡ v * 10 + d → w ≤ 4294967295 → Reads b w (i + 1)
+    unfolding if_there
+    reads_on {d} {w} s q l = record { rest = sym (rw (here, ← s, ← q, le-leb w 4_294_967_295 l)) }
+
+  pub reads_end : length b ≤ i → Some v ≡ decimal b
+  unfolding decimal_from
+  reads_end h = rw (drop_of_length-le b h) at r.rest

@@ -1,18 +1,18 @@
 -- A moment as HH:MM:SS: put into a buffer, read back, and which bytes it has.
 -- Assumes nothing.
 use Prim.Native.Nat.{ℕ, ◌+◌, ◌-◌, ◌*◌, ◌/◌, ◌%◌, ◌≤◌}
-use mathlib.Core.Path.{◌≡◌, refl, ap, ◌∙◌}
-use mathlib.Core.Option.{some}
+use mathlib.Core.Path.{◌≡◌, refl, sym, ap, ◌∙◌}
+use Rattle.std.specs.Prelude.{Some}
 use mathlib.Core.List.{List, [], ◌∷◌, ◌++◌, append-nil}
 use native.Mathlib.Omega.{arith}
 use lib.ListN.{length, set, length-set}
-use borrow.Author.Tests.{le-leb}
 use Rattle.base.specs.Each.{Each, nil, cons}
 use Rattle.base.specs.Put.{with_bytes}
 use Rattle.base.proofs.Put.{put_then, put_one, put_first, put_length}
 use Rattle.csv_text.specs.There.{if_there}
 use Rattle.numbers.specs.Clock.{up_to, eight_bytes, clock, two_digits, clock_text}
-use Rattle.numbers.proofs.Clocks.{both}
+use Rattle.numbers.proofs.Reading.{digit_is}
+use Rattle.numbers.proofs.Clocks.{two_read}
 use Rattle.numbers.proofs.Written.{Shown}
 
 -- ---- put into a buffer
@@ -41,11 +41,14 @@ clock_put b at m {t} {x} {y} h e p q r =
     rw (← e) (put_then b at (hs ++ ms) (58 ∷ two_digits (t % 60)) (omega arith) two r)
 
 -- ---- read back
-two_back : (most n : ℕ) → n ≤ most → most ≤ 99 → up_to most (48 + n / 10) (48 + n % 10) ≡ some n
+two_back : (most n : ℕ) → n ≤ most → most ≤ 99 → up_to most (48 + n / 10) (48 + n % 10) ≡ Some n
 two_back most n h k =
-    both most (48 + n / 10) (48 + n % 10) (omega arith) (omega arith) (omega arith) (omega arith) {v = n} (omega arith) ∙ rw (le-leb n most h)
+    let x : n / 10 ≤ 9 = omega arith in
+    let a = digit_is (48 + n / 10) {d = n / 10} (omega arith) (omega arith) (omega arith) in
+    let b = digit_is (48 + n % 10) {d = n % 10} (omega arith) (omega arith) (omega arith) in
+    sym (two_read most (48 + n / 10) (48 + n % 10) a x b (omega arith) (omega arith) h)
 
-pub clock_reads : (m : ℕ) → 86400 ≤ m → m ≤ 446399 → clock (clock_text m) ≡ some m
+pub clock_reads : (m : ℕ) → 86400 ≤ m → m ≤ 446399 → clock (clock_text m) ≡ Some m
 unfolding clock clock_text two_digits eight_bytes if_there
 clock_reads m h k =
     let x = m - 86_400 in
@@ -55,7 +58,7 @@ clock_reads m h k =
       two_back 59 (x / 60 % 60) (omega arith) (omega arith),
       two_back 59 (x % 60) (omega arith) (omega arith),
     )
-    (ap some q)
+    (ap Some q)
 
 -- ---- its bytes
 pub clock_long : (m : ℕ) → length (clock_text m) ≡ 8

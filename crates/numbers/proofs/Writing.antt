@@ -1,7 +1,7 @@
 -- Digits put into a buffer: the last one behind those of the tenth part.
 -- Assumes nothing.
 use Prim.Native.Nat.{ℕ, ◌+◌, ◌/◌, ◌%◌, ◌^◌, ◌≤◌, ◌<◌}
-use mathlib.Core.Path.{◌≡◌, refl, ap, ◌∙◌}
+use mathlib.Core.Path.{◌≡◌, ap, ◌∙◌}
 use mathlib.Core.List.{List, [], ◌∷◌}
 use native.Mathlib.Omega.{arith}
 use lib.ListN.{length, set, length-append}
@@ -9,7 +9,7 @@ use Rattle.base.specs.Put.{with_bytes}
 use Rattle.numbers.specs.Decimal.{digits}
 use Rattle.base.proofs.Put.{put_one, put_then, put_length}
 use Rattle.numbers.proofs.Digits.{digits_short, digits_long}
-use Rattle.numbers.proofs.Written.{digits_some, digits_few}
+use Rattle.numbers.proofs.Written.{digits_few}
 
 short_length : (n : ℕ) → n < 10 → length (digits n) ≡ 1
 short_length n h = rw (digits_short n h)
@@ -48,27 +48,9 @@ short_end at n h = omega (arith, short_length n h)
 pub long_end : (at n : ℕ) {e : ℕ} → 10 ≤ n → e ≡ at + length (digits (n / 10)) → e + 1 ≡ at + length (digits n)
 long_end at n h q = omega (arith, long_length n h)
 
--- ---- digits counted: k of them, and those of `left` but one, are all
-pub record Counts (n left k : ℕ) : Type 0 where
-  pub all_of_them : k + length (digits left) ≡ 1 + length (digits n)
-  pub least : 1 ≤ length (digits left)
-  pub most : length (digits n) ≤ 10
-  pub small : left ≤ 4_294_967_295
+-- ---- digits counted
+pub size_short : (n : ℕ) → n < 10 → (1 ≡ length (digits n)) × (1 ≤ 10)
+size_short n h = (rw (short_length n h), omega arith)
 
-pub counts_start : (n : ℕ) → n < 2 ^ 32 → Counts n n 1
-counts_start n h = record { all_of_them = refl; least = digits_some n; most = digits_few n (omega arith); small = omega arith }
-
-module _ {n left k : ℕ} (c : Counts n left k) where
-  pub counts_next : 9 < left → Counts n (left / 10) (k + 1)
-  counts_next h = record {
-    all_of_them = omega (arith, c.all_of_them, long_length left (omega arith));
-    least = digits_some (left / 10);
-    most = c.most;
-    small = omega (arith, c.small);
-  }
-
-  pub counts_end : left ≤ 9 → k ≡ length (digits n)
-  counts_end h = omega (arith, c.all_of_them, short_length left (omega arith))
-
-  pub counts_few : left ≤ 9 → k ≤ 10
-  counts_few h = omega (arith, counts_end h, c.most)
+pub size_long : (n : ℕ) {k : ℕ} → n < 2 ^ 32 → 10 ≤ n → k ≡ length (digits (n / 10)) → (k + 1 ≡ length (digits n)) × (k + 1 ≤ 10)
+size_long n h g q = (omega (arith, long_length n g), omega (arith, long_length n g, digits_few n (omega arith)))

@@ -2,7 +2,7 @@
 -- Assumes nothing.
 use Prim.Native.Nat.{ℕ, zero, suc, ◌+◌, ◌-◌, ◌*◌, ◌/◌, ◌%◌, ◌^◌, ◌≤◌, ◌<◌}
 use mathlib.Core.Path.{◌≡◌, refl, sym, ap, ◌∙◌}
-use mathlib.Core.Option.{Option, none, some}
+use Rattle.std.specs.Prelude.{Option, None, Some}
 use mathlib.Core.List.{List, [], ◌∷◌, ◌++◌}
 use native.Mathlib.Omega.{arith}
 use native.Mathlib.Nat.{pow-suc}
@@ -21,7 +21,7 @@ unfolding decimal_from
 one_digit v x b l m n = rw (le-leb 48 x l, le-leb x 57 m, le-leb (v * 10 + (x - 48)) 4_294_967_295 n)
 
 -- digits before others
-behind : (xs ys : List ℕ) (v w : ℕ) → decimal_from v xs ≡ some w → decimal_from v (xs ++ ys) ≡ decimal_from w ys
+behind : (xs ys : List ℕ) (v w : ℕ) → decimal_from v xs ≡ Some w → decimal_from v (xs ++ ys) ≡ decimal_from w ys
 unfolding decimal_from
 behind [] ys v w e = let q : v ≡ w = cc in ap (λ (u : ℕ). decimal_from u ys) q
 behind (x ∷ xs) ys v w e =
@@ -36,27 +36,27 @@ behind (x ∷ xs) ys v w e =
     (λ c. refused (rw (a, c) at e)))
     (λ a. refused (rw a at e))
   where
-    refused : {C : Type 0} → ◌≡◌ {A = Option ℕ} none (some w) → C
+    refused : {C : Type 0} → ◌≡◌ {A = Option ℕ} None (Some w) → C
     refused z = let y : ◌≡◌ {A = ℕ} 0 1 = cc in absurd (omega arith)
 
 -- "reading that gives the same": of one number
-from_digits : (n : ℕ) → n ≤ 4_294_967_295 → decimal_from 0 (digits n) ≡ some n
+from_digits : (n : ℕ) → n ≤ 4_294_967_295 → decimal_from 0 (digits n) ≡ Some n
 unfolding decimal_from
-from_digits n = by_tenths (λ m. m ≤ 4_294_967_295 → decimal_from 0 (digits m) ≡ some m) few many n
+from_digits n = by_tenths (λ m. m ≤ 4_294_967_295 → decimal_from 0 (digits m) ≡ Some m) few many n
   where
-    few : (m : ℕ) → m < 10 → m ≤ 4_294_967_295 → decimal_from 0 (digits m) ≡ some m
+    few : (m : ℕ) → m < 10 → m ≤ 4_294_967_295 → decimal_from 0 (digits m) ≡ Some m
     few m l k =
         let q : 0 * 10 + (48 + m - 48) ≡ m = omega arith in
-        rw (digits_short m l) (one_digit 0 (48 + m) [] (omega arith) (omega arith) (omega arith) ∙ ap some q)
+        rw (digits_short m l) (one_digit 0 (48 + m) [] (omega arith) (omega arith) (omega arith) ∙ ap Some q)
 
-    many : (m : ℕ) → 10 ≤ m → (m / 10 ≤ 4_294_967_295 → decimal_from 0 (digits (m / 10)) ≡ some (m / 10)) → m ≤ 4_294_967_295
-        → decimal_from 0 (digits m) ≡ some m
+    many : (m : ℕ) → 10 ≤ m → (m / 10 ≤ 4_294_967_295 → decimal_from 0 (digits (m / 10)) ≡ Some (m / 10)) → m ≤ 4_294_967_295
+        → decimal_from 0 (digits m) ≡ Some m
     many m l ih k =
         let q : m / 10 * 10 + (48 + m % 10 - 48) ≡ m = omega arith in
         rw (digits_long m l)
         (behind (digits (m / 10)) ((48 + m % 10) ∷ []) 0 (m / 10) (ih (omega arith))
         ∙ one_digit (m / 10) (48 + m % 10) [] (omega arith) (omega arith) (omega arith)
-        ∙ ap some q)
+        ∙ ap Some q)
 
 -- every byte is a digit or, in a moment, a colon, so none ends a field or a line; and there is one, and there are no more than ten
 abbrev pub Shown : ℕ → Type 0
@@ -85,11 +85,11 @@ unfolding decimal
 decimal_from_lem [] h = absurd (omega arith)
 decimal_from_lem (x ∷ b) h = refl
 
-pub read_digits : (n : ℕ) → n ≤ 4_294_967_295 → decimal (digits n) ≡ some n
+pub read_digits : (n : ℕ) → n ≤ 4_294_967_295 → decimal (digits n) ≡ Some n
 read_digits n h = decimal_from_lem (digits n) (digits_some n) ∙ from_digits n h
 
 pub digits_same : (m n : ℕ) → m ≤ 4_294_967_295 → n ≤ 4_294_967_295 → digits m ≡ digits n → m ≡ n
-digits_same m n h k e = let q : some m ≡ some n = sym (read_digits m h) ∙ ap decimal e ∙ read_digits n k in cc
+digits_same m n h k e = let q : Some m ≡ Some n = sym (read_digits m h) ∙ ap decimal e ∙ read_digits n k in cc
 
 -- ten times as much, one digit more
 few_digits : (k n : ℕ) → n < 10 ^ suc k → length (digits n) ≤ suc k

@@ -1,4 +1,3 @@
 -- Numbers as decimal digits, read and written.
 pub mod Decimal
 pub mod Clock
-pub mod Told

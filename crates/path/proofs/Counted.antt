@@ -3,7 +3,7 @@
 use Prim.Native.Nat.{ℕ, ◌+◌, ◌*◌, ◌≤◌, ◌<◌}
 use mathlib.Core.Path.{◌≡◌, ap}
 use mathlib.Core.List.{List, [], ◌∷◌}
-use mathlib.Core.Option.{Option, none}
+use Rattle.std.specs.Prelude.{Option, None, Some}
 use native.Mathlib.Omega.{arith}
 use native.Mathlib.Nat.{zero-add}
 use lib.ListN.{length, get_or}
@@ -15,12 +15,8 @@ use Rattle.model.specs.Limits.{MOST_ROUNDS}
 use Rattle.model.specs.Back.{back}
 use Rattle.model.specs.Bytes.{leg_size, size_of}
 use Rattle.model.proofs.Way.{way_is}
-use Rattle.allocator.specs.declared.Parent.{Parent}
-use Rattle.allocator.specs.declared.Parent.TheVariants.{Leg as By}
-use Rattle.allocator.specs.Rows.{parent_of}
 use Rattle.allocator.specs.Layout.{Words}
 use Rattle.path.specs.declared.Step.{Step}
-use Rattle.path.specs.declared.Step.TheVariants.{On, Done}
 use Rattle.path.specs.Step.{step_of}
 use Rattle.path.specs.Traced.{Traced}
 use Rattle.path.proofs.Behind.{first_size, step_traced, step_early, step_back, at_end}
@@ -54,16 +50,16 @@ counted_none {d} {stops} {w = w} h t l =
     }
 
 module _ {d : Direction} {stops : ℕ} {w : List (Option Leg)} {k₀ s₀ k s size : ℕ} (h : Counted d stops w k₀ s₀ k s size)
-    {p : Parent} (e : p ≡ parent_of (get_or w (k * stops + s) none)) {g : Leg} (q : p ≡ By g)
-    {a : ℕ} (v : a ≡ leg_size g.kind) where
+    {p : Option Leg} (e : p ≡ get_or w (k * stops + s) None) {g : Leg} (q : p ≡ Some g)
+    {a : ℕ} (l : a ≡ leg_size g.kind) where
   pub size_fits : size + a < 18_446_744_073_709_551_616
   size_fits = omega (arith, h.rest, h.small, first_size h.traced e q)
 
-  module _ {r : Step} (f : r ≡ step_of d k g) where
-    pub counted_on : {j u : ℕ} → r ≡ On j u → Counted d stops w k₀ s₀ j u (size + a)
+  module _ {r : Option Step} (f : r ≡ step_of d k g) where
+    pub counted_on : {v : Step} → r ≡ Some v → Counted d stops w k₀ s₀ v.round v.stop (size + a)
     unfolding size_of
-    counted_on {j} {u} z =
-        let rest = back d stops w stops j u in
+    counted_on {v} z =
+        let rest = back d stops w stops v.round v.stop in
         let b : size_of (back d stops w stops k s) ≡ leg_size g.kind + size_of rest =
         ap size_of (step_back h.traced e q f z) in
         record {
@@ -73,7 +69,7 @@ module _ {d : Direction} {stops : ℕ} {w : List (Option Leg)} {k₀ s₀ k s si
           rest = omega (arith, h.rest, b);
         }
 
-    pub counted_all : r ≡ Done → size + a ≡ size_of (back d stops w stops k₀ s₀)
+    pub counted_all : r ≡ None → size + a ≡ size_of (back d stops w stops k₀ s₀)
     unfolding size_of
     counted_all z =
         let b : size_of (back d stops w stops k s) ≡ leg_size g.kind + 0 = ap size_of (at_end h.traced e q f z) in

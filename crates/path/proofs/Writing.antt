@@ -2,31 +2,26 @@
 -- Assumes nothing.
 use Prim.Native.Nat.{ℕ, ◌+◌, ◌-◌, ◌*◌, ◌≤◌, ◌<◌}
 use mathlib.Core.Path.{◌≡◌, refl, sym, ap, ◌∙◌}
-use mathlib.Core.List.{List, [], ◌∷◌, ◌++◌}
-use mathlib.Core.Option.{Option, none}
+use mathlib.Core.List.{List, [], ◌∷◌}
+use Rattle.std.specs.Prelude.{Option, None, Some}
 use native.Mathlib.Omega.{arith}
-use lib.ListN.{length, get_or, drop}
+use lib.ListN.{length, get_or}
 use Rattle.model.specs.declared.Direction.{Direction}
 use Rattle.model.specs.declared.Direction.TheVariants.{Departure, Arrival}
 use Rattle.model.specs.declared.Leg.{Leg}
 use Rattle.model.specs.Limits.{MOST_ROUNDS}
-use Rattle.model.specs.Back.{back, in_order}
-use Rattle.model.specs.Bytes.{write_leg, write, leg_size, size_of}
+use Rattle.model.specs.Back.{back}
+use Rattle.model.specs.Bytes.{write_leg, leg_size, size_of}
 use Rattle.model.proofs.ReadBack.{leg_length}
-use Rattle.allocator.specs.declared.Parent.{Parent}
-use Rattle.allocator.specs.declared.Parent.TheVariants.{Leg as By}
-use Rattle.allocator.specs.Rows.{parent_of}
 use Rattle.allocator.specs.Layout.{Words}
 use Rattle.base.specs.Put.{with_bytes}
 use Rattle.base.proofs.Put.{put_length}
 use Rattle.path.specs.declared.Step.{Step}
-use Rattle.path.specs.declared.Step.TheVariants.{On, Done}
 use Rattle.path.specs.Step.{step_of}
 use Rattle.path.specs.Traced.{Traced}
 use Rattle.path.specs.Once.{ridden_before, places_of, put_all, placed_back}
 use Rattle.path.proofs.Behind.{first_size, step_back, at_end}
 use Rattle.path.proofs.Counted.{Counted, counted_none, counted_on, size_fits}
-use Rattle.path.proofs.Once.{placed_once}
 
 -- the way back, of `size` bytes, began at stop s₀ in round k₀, with b₀ in the buffer; now it is at stop s in round k, the legs found
 -- take `found` bytes, and b is in the buffer
@@ -51,7 +46,7 @@ leg_within Arrival found left size n h = omega arith
 
 module _ {d : Direction} {stops : ℕ} {w : List (Option Leg)} {k₀ s₀ size : ℕ} {b₀ : List ℕ} {k s found : ℕ} {b : List ℕ}
     (h : Writing d stops w k₀ s₀ size b₀ k s found b)
-    {p : Parent} (i : p ≡ parent_of (get_or w (k * stops + s) none)) {g : Leg} (q : p ≡ By g)
+    {p : Option Leg} (i : p ≡ get_or w (k * stops + s) None) {g : Leg} (q : p ≡ Some g)
     {a : ℕ} (v : a ≡ leg_size g.kind) where
   pub found_fits : found + a < 18_446_744_073_709_551_616
   found_fits = size_fits h.counted i q v
@@ -84,8 +79,8 @@ module _ {d : Direction} {stops : ℕ} {w : List (Option Leg)} {k₀ s₀ size :
         leads = rw (x, v, placed) refl ∙ ap (λ l. put_all (places_of d found l) b) (sym c) ∙ h.rest
 
       -- behind it the way back goes on or ends
-      module _ {r : Step} (f : r ≡ step_of d k g) where
-        pub put_on : {j u : ℕ} → r ≡ On j u → Writing d stops w k₀ s₀ size b₀ j u (found + a) y
+      module _ {r : Option Step} (f : r ≡ step_of d k g) where
+        pub put_on : {n : Step} → r ≡ Some n → Writing d stops w k₀ s₀ size b₀ n.round n.stop (found + a) y
         put_on o =
             let c = step_back h.counted.traced i q f o in
             record {
@@ -96,22 +91,6 @@ module _ {d : Direction} {stops : ℕ} {w : List (Option Leg)} {k₀ s₀ size :
               rest = leads _ c;
             }
 
-        pub put_all_lem : r ≡ Done → y ≡ placed_back d (back d stops w stops k₀ s₀) b₀
+        pub put_all_lem : r ≡ None → y ≡ placed_back d (back d stops w stops k₀ s₀) b₀
         unfolding places_of put_all
         put_all_lem o = leads [] (at_end h.counted.traced i q f o)
-
--- ---- the direction of the search is c
-module _ {d c : Direction} (f : d ≡ c) {stops : ℕ} {w : List (Option Leg)} {k s : ℕ} where
-  pub traced_as : Traced d stops w k s → Traced c stops w k s
-  traced_as h = rw (← f) h
-
-module _ {d c : Direction} (f : d ≡ c) (stops : ℕ) (w : List (Option Leg)) (k s : ℕ) where
-  pub size_as : {size : ℕ} → size ≡ size_of (back d stops w stops k s) → size ≡ size_of (back c stops w stops k s)
-  size_as h = rw (← f) h
-
-  -- "put every leg at its final place": so the journey stands there in riding order
-  pub written_as : (b : List ℕ) {y : List ℕ} {size : ℕ} → size ≡ size_of (back d stops w stops k s) → size ≤ length b
-      → y ≡ placed_back c (back c stops w stops k s) b → y ≡ write (in_order d (back d stops w stops k s)) ++ drop size b
-  written_as b e l h =
-      let gs = back d stops w stops k s in
-      h ∙ rw (← f, e) (placed_once d gs b (omega (arith, e, l)))

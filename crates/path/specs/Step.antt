@@ -1,13 +1,11 @@
 -- Where the way back goes on behind a leg, as the code answers with it.
-use Rattle.std.specs.Prelude.{ℕ}
-use Rattle.std.proofs.Math.Option.{none, some}
+use Rattle.std.specs.Prelude.{ℕ, Option, None, Some}
 use Rattle.model.specs.declared.Direction.{Direction}
 use Rattle.model.specs.declared.Leg.{Leg}
 use Rattle.model.specs.declared.LegType.{LegType}
 use Rattle.model.specs.declared.LegType.TheVariants.{Transit, Transfer, Walk}
 use Rattle.model.specs.Back.{near, onward}
 use Rattle.path.specs.declared.Step.{Step}
-use Rattle.path.specs.declared.Step.TheVariants.{On, Done}
 
 -- "a ride lowers the round": by how much the round of the way back falls behind a leg
 abbrev pub lowers : LegType → ℕ
@@ -16,5 +14,5 @@ lowers Transfer = 0
 lowers Walk = 0
 
 -- where `model`'s way back goes on behind a leg of round k
-unfoldable pub step_of : Direction → ℕ → Leg → Step
-step_of d k g = elim (onward g.kind k) [ none ↦ Done | some j ↦ On j (near d g) ]
+unfoldable pub step_of : Direction → ℕ → Leg → Option Step
+step_of d k g = elim (onward g.kind k) [ None ↦ None | Some j ↦ Some (record { round = j; stop = near d g }) ]

@@ -1,2 +1,3 @@
--- A law on the size of a leg.
+-- Laws on the size of a leg and on the legs that bytes begin with.
 pub mod Sizes
+pub mod Whole

@@ -2,13 +2,15 @@
 // what was printed before it stays printed.
 #![tactic(auto)]
 
-ghost use Rattle.std.specs.Prelude.{◌≡◌, ◌≤◌};
+ghost use Rattle.std.specs.Prelude.{◌≡◌, ◌≤◌, length};
+ghost use Rattle.std.specs.Iterator.{at_most};
 ghost use Rattle.model.specs.Bytes.{leg_size};
 
-use journey::LegRead;
 use model::{Leg, LegType};
+use shared::Time;
 use std::io;
 
+// Bytes as they are, text or not.
 pub fn text(rt: &impl Print, bytes: &[u8]) -> io::Result<()> {
     rt.write_all(bytes)
 }
@@ -19,40 +21,30 @@ pub fn number(rt: &impl Print, n: u64) -> io::Result<()> {
 
 // A space, then the number.
 pub fn field(rt: &impl Print, n: u32) -> io::Result<()> {
-    text(rt, b" ")?;
-    number(rt, n as u64)
-}
-
-fn moments(rt: &impl Print, g: Leg) -> io::Result<()> {
-    field(rt, g.departure.0)?;
-    field(rt, g.arrival.0)
-}
-
-fn stops(rt: &impl Print, g: Leg) -> io::Result<()> {
-    field(rt, g.from)?;
-    field(rt, g.to)
+    print!(rt; " {n}")
 }
 
 // Kind, from, to, the trip of a ride, departure, arrival. A footpath has `none` where a ride has its trip.
 pub fn leg(rt: &impl Print, g: Leg, none: &[u8]) -> io::Result<()> {
-    match g.kind {
-        LegType::Transit(trip) => {
-            text(rt, b"ride")?;
-            stops(rt, g)?;
-            field(rt, trip)?;
-        }
+    let Leg {
+        from,
+        to,
+        departure: Time(departure),
+        arrival: Time(arrival),
+        kind,
+    } = g;
+    match kind {
+        LegType::Transit(trip) => print!(rt; "ride {from} {to} {trip}")?,
         LegType::Transfer => {
-            text(rt, b"transfer")?;
-            stops(rt, g)?;
+            print!(rt; "transfer {from} {to}")?;
             text(rt, none)?;
         }
         LegType::Walk => {
-            text(rt, b"walk")?;
-            stops(rt, g)?;
+            print!(rt; "walk {from} {to}")?;
             text(rt, none)?;
         }
     }
-    moments(rt, g)
+    print!(rt; " {departure} {arrival}")
 }
 
 // How many bytes a leg takes.
@@ -64,6 +56,34 @@ pub fn size(g: Leg) -> usize
     journey::leg_size(g)
 }
 
+// The legs that bytes begin with: up to their end, or to the first that is no whole leg.
+#[derive(Clone, Copy)]
+pub struct WholeLegs<'a> {
+    pub rest: &'a [u8],
+}
+
+impl<'a> Iterator for WholeLegs<'a> {
+    type Item = Leg;
+
+    ghost use Rattle.print.specs.Whole.{GivesWhole};
+
+    ghost next_gives = { GivesWhole };
+
+    ghost remaining = { λ s. at_most (length s.rest.now) };
+
+    fn next(&mut self) -> Option<Leg> {
+        match journey::read_leg(self.rest, 0) {
+            Some(Ok(leg)) => {
+                let (_, behind) = self.rest.split_at(size(leg));
+                self.rest = behind;
+                Some(leg)
+            }
+            Some(Err(_)) => None,
+            None => None,
+        }
+    }
+}
+
 // Each leg of the bytes between `before` and `after`.
 pub fn legs(
     rt: &impl Print,
@@ -72,15 +92,10 @@ pub fn legs(
     none: &[u8],
     after: &[u8],
 ) -> io::Result<()> {
-    let mut at = 0;
-    while at < bytes.len() {
-        let LegRead::Whole(g) = journey::read_leg(bytes, at) else {
-            return Ok(());
-        };
+    for g in (WholeLegs { rest: bytes }) {
         text(rt, before)?;
         leg(rt, g, none)?;
         text(rt, after)?;
-        at += size(g);
     }
     Ok(())
 }

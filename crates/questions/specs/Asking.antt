@@ -1,5 +1,5 @@
 -- Which query the arguments are: a place, `depart` or `arrive`, a moment against the timetable's midnight, walks and the mode.
-use Rattle.std.specs.Prelude.{ℕ, cond, List, [], ◌∷◌, eqb}
+use Rattle.std.specs.Prelude.{ℕ, Bool, true, false, cond, List, [], ◌∷◌, Option, Some, None, unwrap_or, Result, Ok, Err}
 use Rattle.model.specs.declared.Location.{Location}
 use Rattle.model.specs.declared.Location.TheVariants.{Stop as stop, Area as area}
 use Rattle.model.specs.declared.TimeConstraint.{TimeConstraint}
@@ -8,68 +8,61 @@ use Rattle.model.specs.declared.Walks.{Walks}
 use Rattle.model.specs.declared.Walks.TheVariants.{Unsaid, Allowed, Barred}
 use Rattle.model.specs.declared.Mode.{Mode}
 use Rattle.model.specs.declared.Mode.TheVariants.{Source, Rescan}
+use Rattle.arguments.specs.declared.moment.NoMoment.{NoMoment}
 use Rattle.arguments.specs.declared.options.Options.{Options}
-use Rattle.arguments.specs.declared.moment.Moment.{Moment}
-use Rattle.arguments.specs.declared.moment.Moment.TheVariants.{At as at_moment, NoForm, NoMinutes, TooLarge as LateMoment}
 use Rattle.arguments.specs.declared.place.Place.{Place}
-use Rattle.arguments.specs.declared.place.Place.TheVariants.{Stop, Area, Nothing, TooLarge}
+use Rattle.arguments.specs.declared.place.Place.TheVariants.{Stop, Area}
+use Rattle.arguments.specs.Moment.{Moment}
 use Rattle.arguments.specs.Word.{same}
-use Rattle.questions.specs.declared.Spot.{Spot}
-use Rattle.questions.specs.declared.Spot.TheVariants.{At, Bad}
-use Rattle.questions.specs.declared.Direction.{Direction}
-use Rattle.questions.specs.declared.Direction.TheVariants.{Departure, Arrival, Bad as BadDirection}
-use Rattle.questions.specs.declared.Constraint.{Constraint}
-use Rattle.questions.specs.declared.Constraint.TheVariants.{At as at_time, Bad as BadTime}
+use Rattle.model.specs.declared.Direction.{Direction}
+use Rattle.model.specs.declared.Direction.TheVariants.{Departure, Arrival}
 use Rattle.questions.specs.declared.Question.{Question}
-use Rattle.questions.specs.declared.Asked.{Asked}
-use Rattle.questions.specs.declared.Asked.TheVariants.{Question as asked, Bad as BadAsked}
 
-unfoldable pub spot_of : Place → Spot
-spot_of (Stop n) = At (stop n)
-spot_of (Area n) = At (area n)
-spot_of Nothing = Bad
-spot_of TooLarge = Bad
+abbrev pub spot_of : Place → Location
+spot_of (Stop n) = stop n
+spot_of (Area n) = area n
 
 -- `depart` and `arrive`, in ASCII
-unfoldable pub depart_word : List ℕ
+abbrev pub depart_word : List ℕ
 depart_word = 100 ∷ 101 ∷ 112 ∷ 97 ∷ 114 ∷ 116 ∷ []
 
-unfoldable pub arrive_word : List ℕ
+abbrev pub arrive_word : List ℕ
 arrive_word = 97 ∷ 114 ∷ 114 ∷ 105 ∷ 118 ∷ 101 ∷ []
 
-unfoldable pub direction_said : List ℕ → Direction
-direction_said arg = cond (same arg depart_word) Departure (cond (same arg arrive_word) Arrival BadDirection)
+abbrev pub direction_said : List ℕ → Option Direction
+direction_said arg = cond (same arg depart_word) (Some Departure) (cond (same arg arrive_word) (Some Arrival) None)
 
--- 1 is `walks:yes`, 2 is `walks:no`
-unfoldable pub walks_for : ℕ → Walks
-walks_for said = cond (eqb said 1) Allowed (cond (eqb said 2) Barred Unsaid)
+-- `walks:yes` allows walks, `walks:no` bars them
+abbrev pub walks_for : Option Bool → Walks
+walks_for (Some true) = Allowed
+walks_for (Some false) = Barred
+walks_for None = Unsaid
 
--- 2 is `mode:rescan`
-unfoldable pub mode_for : ℕ → Mode
-mode_for said = cond (eqb said 2) Rescan Source
+-- `mode:rescan` asks for the rescan mode
+abbrev pub mode_for : Option Bool → Mode
+mode_for (Some true) = Rescan
+mode_for (Some false) = Source
+mode_for None = Source
+
+-- the seconds of `midnight:SECONDS`, 0 where they are not said
+abbrev pub midnight_for : Options → ℕ
+midnight_for o = unwrap_or o.midnight 0
 
 -- "an earliest departure or a latest arrival"
-unfoldable pub time_for : Direction → ℕ → Constraint
-time_for Departure t = at_time (departure (record { 0 = t }))
-time_for Arrival t = at_time (arrival (record { 0 = t }))
-time_for BadDirection t = BadTime
+abbrev pub time_for : Direction → ℕ → TimeConstraint
+time_for Departure t = departure (record { 0 = t })
+time_for Arrival t = arrival (record { 0 = t })
 
-unfoldable pub asks : Location → Location → TimeConstraint → Options → Question
+abbrev pub asks : Location → Location → TimeConstraint → Options → Question
 asks from to c o =
     record {
-      query = record { from = from; to = to; time = c; walks = walks_for o.walks; mode = mode_for o.mode };
+      query = record { from = from; to = to; time = c; walks = walks_for o.walks; mode = mode_for o.rescan };
       file = o.file;
-      midnight = o.midnight;
+      midnight = midnight_for o;
       bytes = o.bytes;
     }
 
-unfoldable pub asks_at : Location → Location → Constraint → Options → Asked
-asks_at from to (at_time c) o = asked (asks from to c o)
-asks_at from to BadTime o = BadAsked
-
--- what is asked at a moment, where it is one
-unfoldable pub asked_for : Location → Location → Direction → Moment → Options → Asked
-asked_for from to d (at_moment t) o = asks_at from to (time_for d t) o
-asked_for from to d NoForm o = BadAsked
-asked_for from to d NoMinutes o = BadAsked
-asked_for from to d LateMoment o = BadAsked
+-- what is asked at a moment, or why there is no moment
+abbrev pub asked_for : Location → Location → Direction → Moment → Options → Result Question NoMoment
+asked_for from to d (Ok t) o = Ok (asks from to (time_for d t) o)
+asked_for from to d (Err e) o = Err e

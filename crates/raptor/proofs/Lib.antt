@@ -5,4 +5,4 @@ pub mod Told
 pub mod Answered
 pub mod Unique
 pub mod Promises
-pub mod Lengths
+pub mod Measures

@@ -14,11 +14,13 @@ use borrow.Author.Tests.{eqb-true, eqb-false, leb-true, leb-false}
 use Rattle.base.proofs.Choice.{cond_elim}
 use Rattle.base.specs.Each.{Each}
 use Rattle.shared.specs.declared.Time.{Time}
-use Rattle.model.specs.declared.Answer.{Answer}
-use Rattle.model.specs.declared.Answer.TheVariants.{Found, Refused, NoRouteFound, FailedToBuildRoute, TooLong}
+use Rattle.std.specs.Prelude.{Ok, Err}
+use Rattle.model.specs.declared.Error.TheVariants.{Refused, NoRouteFound, FailedToBuildRoute, TooLong}
+use Rattle.model.specs.declared.Found.{Found}
 use Rattle.model.specs.declared.Direction.{Direction}
 use Rattle.model.specs.declared.Leg.{Leg}
 use Rattle.model.specs.declared.Query.{Query}
+use Rattle.model.specs.declared.Refusal.{Refusal}
 use Rattle.model.specs.declared.Target.{Target}
 use Rattle.model.specs.declared.TimeConstraint.{TimeConstraint}
 use Rattle.model.specs.declared.TimeConstraint.TheVariants.{Departure, Arrival}
@@ -27,7 +29,8 @@ use Rattle.model.specs.Tables.{Net}
 use Rattle.model.specs.State.{Times}
 use Rattle.model.specs.Work.{Work, work_of, SameTimes}
 use Rattle.model.specs.Places.{place_stops}
-use Rattle.model.specs.Answer.{may_walk, task_of, refusal, lowest, searched, legs_by, legs_of, reply_to, reply, unless, answer, given, answer_of, ran}
+use Rattle.model.specs.Refusal.{refusal_number}
+use Rattle.model.specs.Answer.{Answer, may_walk, task_of, refusal, lowest, searched, legs_by, legs_of, reply_to, reply, unless, refused_by, answer, given, answer_of, ran}
 use Rattle.model.specs.Left.{Workspace, workspace_of, written, journey_left}
 use Rattle.model.specs.Bytes.{legs as read_as, write, read, size_of, Fits}
 use Rattle.model.specs.Round.{Order, Fair, listed}
@@ -38,6 +41,7 @@ use Rattle.model.specs.AskedFor.{AskedAt, AskedFor}
 use Rattle.model.specs.Sound.{Asked}
 use Rattle.model.proofs.Orders.{listed_fair, same_times}
 use Rattle.model.proofs.Asking.{asked}
+use Rattle.model.proofs.Refusals.{number_range, number-refusal_of}
 use Rattle.model.proofs.Answers.{unrefused, never_11, lowest_most, answer_of_lem, asked_for}
 use Rattle.model.proofs.Journeys.{chosen, in_rounds, bytes_at_most}
 use Rattle.model.proofs.Dated.{journey_dated}
@@ -57,13 +61,13 @@ use Rattle.raptor.specs.Lent.{Lent}
 use Rattle.raptor.specs.Solved.{sized, holds, Ended, Solved}
 
 -- what an answer 0 says of the target and of the legs
-record FoundBy (room : ℕ) (aimed : Target) (gs : List Leg) (time : Time) (s k z : ℕ) : Type 0 where
-  time_is : time ≡ aimed.time
-  stop_is : s ≡ aimed.stop
-  round_is : k ≡ aimed.round
-  length_is : z ≡ size_of gs
+record FoundBy (room : ℕ) (aimed : Target) (gs : List Leg) (f : Found) : Type 0 where
+  time_is : f.time ≡ aimed.time
+  stop_is : f.stop ≡ aimed.stop
+  round_is : f.round ≡ aimed.round
+  length_is : f.length ≡ size_of gs
   chosen : 0 < aimed.time.0
-  fits : z ≤ room
+  fits : f.length ≤ room
 
 -- and what 12 says
 record LongBy (room : ℕ) (aimed : Target) (gs : List Leg) (z : ℕ) : Type 0 where
@@ -72,11 +76,11 @@ record LongBy (room : ℕ) (aimed : Target) (gs : List Leg) (z : ℕ) : Type 0 w
   over : room < z
 
 abbrev Tells : ℕ → Target → List Leg → Answer → Type 0
-Tells room aimed gs (Found time s k z) = FoundBy room aimed gs time s k z
-Tells room aimed gs (Refused x) = ⊥
-Tells room aimed gs NoRouteFound = aimed.time.0 ≡ 0
-Tells room aimed gs FailedToBuildRoute = 0 < aimed.time.0
-Tells room aimed gs (TooLong z) = LongBy room aimed gs z
+Tells room aimed gs (Ok f) = FoundBy room aimed gs f
+Tells room aimed gs (Err (Refused x)) = ⊥
+Tells room aimed gs (Err NoRouteFound) = aimed.time.0 ≡ 0
+Tells room aimed gs (Err FailedToBuildRoute) = 0 < aimed.time.0
+Tells room aimed gs (Err (TooLong z)) = LongBy room aimed gs z
 
 reply_tells : (room : ℕ) (aimed : Target) (gs : List Leg) → Tells room aimed gs (reply room aimed gs)
 unfolding reply reply_to
@@ -135,24 +139,24 @@ module _ (w : List ℕ) (q : Query) (before : Lent) {r : Answer} {after : Lent} 
   abbrev told : Answer
   told = reply (length before.journey) (searched (net_of w) q).times.target (legs_of (net_of w) q)
 
-  answered : r ≡ unless Refused told number
+  answered : r ≡ unless refused_by told number
   unfolding answer
   answered = h.answers
 
-  refused_by : (k : ℕ) → number ≡ suc k → r ≡ Refused (suc k)
+  refused_as : (k : ℕ) → number ≡ suc k → r ≡ refused_by (suc k)
   unfolding unless
-  refused_by k e = answered ∙ ap (unless Refused told) e
+  refused_as k e = answered ∙ ap (unless refused_by told) e
 
   told_by : number ≡ 0 → r ≡ told
   unfolding unless
-  told_by e = answered ∙ ap (unless Refused told) e
+  told_by e = answered ∙ ap (unless refused_by told) e
 
   none_refused : ran r ≡ true → number ≡ 0
   none_refused b = go number refl
     where
       go : (k : ℕ) → number ≡ k → number ≡ 0
       go zero e = e
-      go (suc k) e = absurd (false≢true (sym (ap ran (refused_by k e)) ∙ b))
+      go (suc k) e = absurd (false≢true (sym (ap ran (refused_as k e)) ∙ b))
 
   some_refused : ran r ≡ false → 0 < number
   some_refused b = go number refl
@@ -167,12 +171,14 @@ module _ (w : List ℕ) (q : Query) (before : Lent) {r : Answer} {after : Lent} 
 
   -- ==== Demand 1
   -- "bad tables are refused by number before the search starts"
-  pub tables_refused : (k : ℕ) → check_of w ≡ suc k → r ≡ Refused (suc k)
-  unfolding lowest
-  tables_refused k e = refused_by k (ap (λ (c : ℕ). lowest c (sized (net_of w) before) (net_of w) q) e)
+  pub tables_refused : (k : ℕ) → check_of w ≡ suc k → (r ≡ refused_by (suc k)) × ((given r).number ≡ suc k)
+  unfolding lowest given
+  tables_refused k e =
+      let is = refused_as k (ap (λ (c : ℕ). lowest c (sized (net_of w) before) (net_of w) q) e) in
+      (is, ap (λ (a : Answer). (given a).number) is ∙ number-refusal_of (suc k) (omega arith) (omega (arith, check_most w, e)))
 
   -- "The workspace is untouched on 1 to 9"
-  pub refused_untouched : {x : ℕ} → r ≡ Refused x → (after.words ≡ before.words) × (after.marks ≡ before.marks) × (after.places ≡ before.places)
+  pub refused_untouched : {x : Refusal} → r ≡ Err (Refused x) → (after.words ≡ before.words) × (after.marks ≡ before.marks) × (after.places ≡ before.places)
   refused_untouched e = h.workspace.untouched (some_refused (ap ran e))
 
   -- ".. as the search ends on 0 and 10 to 12"
@@ -185,37 +191,38 @@ module _ (w : List ℕ) (q : Query) (before : Lent) {r : Answer} {after : Lent} 
   refused_journey ne = kept_journey ∙ go r ne
     where
       go : (a : Answer) → (given a).number ≢ 0 → written a (legs_of (net_of w) q) before.journey ≡ before.journey
-      go (Found time s k z) ne = absurd (ne refl)
-      go (Refused x) ne = refl
-      go NoRouteFound ne = refl
-      go FailedToBuildRoute ne = refl
-      go (TooLong z) ne = refl
+      go (Ok f) ne = absurd (ne refl)
+      go (Err x) ne = refl
 
-  -- a refusal before the search has a number from 1 to 9
-  pub refused_range : {x : ℕ} → r ≡ Refused x → (0 < x) × (x ≤ 9)
-  refused_range {x} e = go number refl
+  -- a refusal before the search has the lowest number that applies ..
+  pub refused_is : {x : Refusal} → r ≡ Err (Refused x) → refusal_number x ≡ lowest (check_of w) (sized (net_of w) before) (net_of w) q
+  unfolding given
+  refused_is {x} e = go number refl
     where
-      go : (k : ℕ) → number ≡ k → (0 < x) × (x ≤ 9)
+      go : (k : ℕ) → number ≡ k → refusal_number x ≡ number
       go zero f = absurd (false≢true (sym (ap ran e) ∙ ap ran (told_by f) ∙ reply_ran (length before.journey) goal (legs_of (net_of w) q)))
       go (suc k) f =
-          let same : Refused x ≡ Refused (suc k) = sym e ∙ refused_by k f in
-          let is : x ≡ suc k = cc in
-          let most = lowest_most (check_of w) (sized (net_of w) before) (net_of w) q (check_most w) in
-          (omega arith, omega arith)
+          ap (λ (a : Answer). (given a).number) (sym e ∙ refused_as k f)
+          ∙ number-refusal_of (suc k) (omega arith) (omega (arith, f, lowest_most (check_of w) (sized (net_of w) before) (net_of w) q (check_most w)))
+          ∙ sym f
+
+  -- .. from 1 to 9
+  pub refused_range : {x : Refusal} → r ≡ Err (Refused x) → (0 < refusal_number x) × (refusal_number x ≤ 9)
+  refused_range {x} e = number_range x
 
   -- "If an answer is an enum, a definition gives this paper's number and values": they are one answer, so every promise can be read with
-  -- numbers. 0 is `Found` with these values, 10 `NoRouteFound`, 12 `TooLong`, any other `Refused`
+  -- numbers. 0 is `Ok` with these values, 10 `NoRouteFound`, 12 `TooLong`, 1 to 9 `Refused`
   pub numbered : answer_of (given r) ≡ r
-  numbered = answer_of_lem r (λ x e. refused_range e)
+  numbered = answer_of_lem r
 
   pub number_0 : (given r).number ≡ 0
-      → r ≡ Found (record { 0 = (given r).time }) (given r).stop (given r).round (given r).length
+      → r ≡ Ok (record { time = record { 0 = (given r).time }; stop = (given r).stop; round = (given r).round; length = (given r).length })
   number_0 e = sym numbered ∙ rw e
 
-  pub number_10 : (given r).number ≡ 10 → r ≡ NoRouteFound
+  pub number_10 : (given r).number ≡ 10 → r ≡ Err NoRouteFound
   number_10 e = sym numbered ∙ rw e
 
-  pub number_12 : (given r).number ≡ 12 → r ≡ TooLong (given r).length
+  pub number_12 : (given r).number ≡ 12 → r ≡ Err (TooLong (given r).length)
   number_12 e = sym numbered ∙ rw e
 
   -- ==== what a search that has run rests on
@@ -229,7 +236,7 @@ module _ (w : List ℕ) (q : Query) (before : Lent) {r : Answer} {after : Lent} 
   task_asked b = asked (net_of w) (accepted_sound_places (accepted b)) q (unrefused_query b)
 
   -- "11 a chosen stop but no leg" is given for no input
-  pub never_failed : r ≢ FailedToBuildRoute
+  pub never_failed : r ≢ Err FailedToBuildRoute
   never_failed e =
       never_11 (net_of w) (accepted_sound (accepted (ap ran e))) (accepted_sound_places (accepted (ap ran e))) q (check_of w) (sized (net_of w) before) (length before.journey) (sym h.answers ∙ e)
 
@@ -247,18 +254,18 @@ module _ (w : List ℕ) (q : Query) (before : Lent) {r : Answer} {after : Lent} 
 
       go : (k : ℕ) → number ≡ k → (given r).length ≤ 69_692
       go zero e = rw (told_by e) (reply_length (length before.journey) 69_692 goal (legs_of (net_of w) q) (few e))
-      go (suc k) e = rw (refused_by k e) (omega arith)
+      go (suc k) e = rw (refused_as k e) (omega arith)
 
   -- ==== Demand 2: "Journeys are written to bytes and read back unchanged"
-  module _ {time : Time} {s k z : ℕ} (e : r ≡ Found time s k z) where
-    is_found : FoundBy (length before.journey) goal (legs_of (net_of w) q) time s k z
+  module _ {f : Found} (e : r ≡ Ok f) where
+    is_found : FoundBy (length before.journey) goal (legs_of (net_of w) q) f
     is_found = subst (Tells (length before.journey) goal (legs_of (net_of w) q)) (sym (told_by (none_refused (ap ran e))) ∙ e) (reply_tells (length before.journey) goal (legs_of (net_of w) q))
 
     left : after.journey ≡ write (legs_of (net_of w) q) ++ drop (length (write (legs_of (net_of w) q))) before.journey
     unfolding written
     left = kept_journey ∙ ap (λ (a : Answer). written a (legs_of (net_of w) q) before.journey) e
 
-    size : length (write (legs_of (net_of w) q)) ≡ z
+    size : length (write (legs_of (net_of w) q)) ≡ f.length
     size = size_is (legs_of (net_of w) q) ∙ sym is_found.length_is
 
     -- nothing refused it, and a stop was chosen
@@ -269,12 +276,12 @@ module _ (w : List ℕ) (q : Query) (before : Lent) {r : Answer} {after : Lent} 
     found_chosen = is_found.chosen
 
     -- the first bytes, as many as the length says, are the journey's ..
-    pub journey_bytes : take z after.journey ≡ write (legs_of (net_of w) q)
-    journey_bytes = ap (take z) left ∙ take_at (write (legs_of (net_of w) q)) _ z size
+    pub journey_bytes : take f.length after.journey ≡ write (legs_of (net_of w) q)
+    journey_bytes = ap (take f.length) left ∙ take_at (write (legs_of (net_of w) q)) _ f.length size
 
     -- "On 0 bytes past the journey stay unchanged."
-    pub past_unchanged : drop z after.journey ≡ drop z before.journey
-    past_unchanged = ap (drop z) left ∙ drop_at (write (legs_of (net_of w) q)) _ z size ∙ ap (λ (i : ℕ). drop i before.journey) size
+    pub past_unchanged : drop f.length after.journey ≡ drop f.length before.journey
+    past_unchanged = ap (drop f.length) left ∙ drop_at (write (legs_of (net_of w) q)) _ f.length size ∙ ap (λ (i : ℕ). drop i before.journey) size
 
     -- the direction of the search, and the legs as its way back finds them
     abbrev toward : Direction
@@ -291,10 +298,10 @@ module _ (w : List ℕ) (q : Query) (before : Lent) {r : Answer} {after : Lent} 
         left ∙ rw long (sym (placed_once toward way_back before.journey (omega (arith, long, size, is_found.fits))))
 
     -- "Write each leg once": every byte below the length that is told belongs to one leg and is put once, and no other byte is put
-    pub found_once : (i : ℕ) → times_put (places_of toward 0 way_back) i ≡ cond (ltb i z) 1 0
+    pub found_once : (i : ℕ) → times_put (places_of toward 0 way_back) i ≡ cond (ltb i f.length) 1 0
     unfolding legs_of journey
     found_once i =
-        let long : size_of way_back ≡ z = sym (order_size toward way_back) ∙ size in
+        let long : size_of way_back ≡ f.length = sym (order_size toward way_back) ∙ size in
         places_apart toward way_back i ∙ ap (λ (n : ℕ). cond (ltb i n) 1 0) long
 
     legs_fit : Each Fits (legs_of (net_of w) q)
@@ -305,18 +312,18 @@ module _ (w : List ℕ) (q : Query) (before : Lent) {r : Answer} {after : Lent} 
         is_found.chosen
 
     -- .. and they are read as its legs
-    pub reads_back : read (take z after.journey) ≡ read_as (legs_of (net_of w) q)
+    pub reads_back : read (take f.length after.journey) ≡ read_as (legs_of (net_of w) q)
     reads_back = ap read journey_bytes ∙ read_write (legs_of (net_of w) q) legs_fit
 
     -- the chosen stop is a stop of the place that is searched for, and the round is one of the 15
-    pub chosen_goal : Memᴰ s (task_of (net_of w) q).goals
+    pub chosen_goal : Memᴰ f.stop (task_of (net_of w) q).goals
     unfolding searched
     chosen_goal =
         let b : ran r ≡ true = ap ran e in
         rw is_found.stop_is
         (chosen (net_of w) (accepted_sound (accepted b)) (task_of (net_of w) q) (task_asked b) listed listed_fair is_found.chosen)
 
-    pub chosen_round : k < MOST_ROUNDS
+    pub chosen_round : f.round < MOST_ROUNDS
     unfolding searched
     chosen_round =
         let b : ran r ≡ true = ap ran e in
@@ -372,8 +379,8 @@ module _ (w : List ℕ) (q : Query) (before : Lent) {r : Answer} {after : Lent} 
         (rw aims at c)
 
   -- an answer 0
-  module _ {time : Time} {s k z : ℕ} (e : r ≡ Found time s k z) where
-    pub any_order_journey : (o : Order) → Fair o → AskedFor (net_of w) q s time.0 (suc k) (legs_by (net_of w) q o)
+  module _ {f : Found} (e : r ≡ Ok f) where
+    pub any_order_journey : (o : Order) → Fair o → AskedFor (net_of w) q f.stop f.time.0 (suc f.round) (legs_by (net_of w) q o)
     any_order_journey o fair =
         let x = is_found e in
         rw (x.stop_is, x.time_is, x.round_is) (traced (ap ran e) x.chosen o fair)
@@ -385,25 +392,25 @@ module _ (w : List ℕ) (q : Query) (before : Lent) {r : Answer} {after : Lent} 
     -- the journey that is written is that of document 01's order
     abbrev by_kind : TimeConstraint → Type 0
     by_kind c =
-        AskedAt c (net_of w) (may_walk q.walks) (place_stops (net_of w) q.from) (place_stops (net_of w) q.to) s time.0 (suc k)
+        AskedAt c (net_of w) (may_walk q.walks) (place_stops (net_of w) q.from) (place_stops (net_of w) q.to) f.stop f.time.0 (suc f.round)
         (legs_of (net_of w) q)
 
-    in_order : AskedFor (net_of w) q s time.0 (suc k) (legs_of (net_of w) q)
+    in_order : AskedFor (net_of w) q f.stop f.time.0 (suc f.round) (legs_of (net_of w) q)
     unfolding legs_of searched
     in_order = any_order_journey listed listed_fair
 
     pub departure_journey : {asked_at : Time} → q.time ≡ Departure asked_at
-        → Departing (net_of w) (may_walk q.walks) (place_stops (net_of w) q.from) asked_at.0 s time.0 (suc k) (legs_of (net_of w) q)
+        → Departing (net_of w) (may_walk q.walks) (place_stops (net_of w) q.from) asked_at.0 f.stop f.time.0 (suc f.round) (legs_of (net_of w) q)
     departure_journey f = subst by_kind f in_order
 
     -- "For arrival queries .. the journey part (end at a destination no later than asked, first departure as reported) needs each footpath
     -- listed both ways, as one kind and with one span."
     pub arrival_journey : {asked_at : Time} → BothWays (net_of w) (may_walk q.walks) → q.time ≡ Arrival asked_at
-        → Arriving (net_of w) (may_walk q.walks) (place_stops (net_of w) q.to) asked_at.0 s time.0 (suc k) (legs_of (net_of w) q)
+        → Arriving (net_of w) (may_walk q.walks) (place_stops (net_of w) q.to) asked_at.0 f.stop f.time.0 (suc f.round) (legs_of (net_of w) q)
     arrival_journey both f = (subst by_kind f in_order) both
 
   -- an answer 12: the journey is one that the query asks for, from the stop that was chosen; only the buffer is too short for it
-  module _ {z : ℕ} (e : r ≡ TooLong z) where
+  module _ {z : ℕ} (e : r ≡ Err (TooLong z)) where
     is_long : LongBy (length before.journey) goal (legs_of (net_of w) q) z
     is_long = subst (Tells (length before.journey) goal (legs_of (net_of w) q)) (sym (told_by (none_refused (ap ran e))) ∙ e) (reply_tells (length before.journey) goal (legs_of (net_of w) q))
 

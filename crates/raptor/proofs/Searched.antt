@@ -69,13 +69,12 @@ module _ (n : Net) (q : Query) {a : Ask} (e : a ≡ ask_of n q) where
   unfolding ask_of
   ask_routes = ap (λ (x : Ask). x.routes) e
 
-pub posed_of : {w : List ℕ} {q : Query} {a : Ask} {k : ℕ} → Accepted w → a ≡ ask_of (net_of w) q → k ≡ refusal (net_of w) q → k ≡ 0
-    → Posed w q a
-posed_of h e f z = record {
+pub posed_of : {w : List ℕ} {q : Query} {a : Ask} → Accepted w → a ≡ ask_of (net_of w) q → 0 ≡ refusal (net_of w) q → Posed w q a
+posed_of h e f = record {
   known = λ u. h;
   tabled = record { known = λ u. record { searchable = accepted_searchable h; net_stops = ask_stops _ _ e; net_routes = ask_routes _ _ e } };
   asks = e;
-  unrefused = sym f ∙ z;
+  unrefused = sym f;
 }
 
 module _ {w : List ℕ} {q : Query} {a : Ask} (posed : Posed w q a) where

@@ -5,7 +5,6 @@ use mathlib.Core.Bool.{Bool}
 use mathlib.Core.List.{List, ◌++◌}
 use lib.ListN.{length, take, drop}
 use lib.Seq.{take_at, drop_at}
-use Rattle.model.specs.declared.Answer.{Answer}
 use Rattle.model.specs.declared.Direction.{Direction}
 use Rattle.model.specs.declared.Mode.{Mode}
 use Rattle.model.specs.declared.Query.{Query}
@@ -17,7 +16,7 @@ use Rattle.model.specs.Tables.{Net}
 use Rattle.model.specs.State.{State}
 use Rattle.model.specs.Work.{work_of, state_of}
 use Rattle.model.specs.Back.{trace, journey}
-use Rattle.model.specs.Answer.{may_walk, task_by, task_of, refusal, searched, legs_of, reply}
+use Rattle.model.specs.Answer.{Answer, may_walk, task_by, task_of, refusal, searched, legs_of, reply}
 use Rattle.model.specs.Left.{placed, workspace_of, written}
 use Rattle.model.specs.Places.{place_stops}
 use Rattle.model.specs.Round.{listed}

@@ -5,10 +5,9 @@ use mathlib.Core.Path.{◌≡◌, refl, sym, ap, ◌∙◌}
 use mathlib.Core.List.{List, ◌++◌}
 use native.Mathlib.Omega.{arith}
 use lib.ListN.{take, drop, take-append-drop}
-use Rattle.model.specs.declared.Answer.{Answer}
 use Rattle.model.specs.declared.Query.{Query}
 use Rattle.model.specs.Tables.{Net}
-use Rattle.model.specs.Answer.{lowest, legs_of}
+use Rattle.model.specs.Answer.{Answer, lowest, legs_of}
 use Rattle.model.specs.Left.{Workspace, written}
 use Rattle.repository.specs.NetOf.{net_of}
 use Rattle.repository.specs.Checked.{check_of}

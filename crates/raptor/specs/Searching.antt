@@ -1,11 +1,10 @@
 -- What the steps of a query that is not refused find and leave.
 use Rattle.std.specs.Prelude.{ℕ, ◌≡◌, true, List, ◌++◌, length}
-use Rattle.model.specs.declared.Answer.{Answer}
 use Rattle.model.specs.declared.Location.{Location}
 use Rattle.model.specs.declared.Query.{Query}
 use Rattle.model.specs.Tables.{Net}
 use Rattle.model.specs.Places.{exists, place_stops}
-use Rattle.model.specs.Answer.{may_walk, moment_of, refusal, searched, legs_of, reply}
+use Rattle.model.specs.Answer.{Answer, may_walk, moment_of, refusal, searched, legs_of, reply}
 use Rattle.model.specs.Left.{placed, written}
 use Rattle.repository.specs.Accepted.{Accepted}
 use Rattle.repository.specs.NetOf.{net_of}

@@ -1,10 +1,9 @@
 -- What `solve` answers and leaves, for every table, query, workspace and buffer. Two results that meet `Solved` are equal, in the answer
 -- and in every word and byte of everything lent (`solved_unique` of proofs/Unique.antt).
 use Rattle.std.specs.Prelude.{ℕ, ◌+◌, ◌<◌, ◌≡◌, Bool, ◌&&◌, List, eqb, length, take, drop}
-use Rattle.model.specs.declared.Answer.{Answer}
 use Rattle.model.specs.declared.Query.{Query}
 use Rattle.model.specs.Tables.{Net}
-use Rattle.model.specs.Answer.{lowest, searched, answer}
+use Rattle.model.specs.Answer.{Answer, lowest, searched, answer}
 use Rattle.model.specs.Left.{Workspace, workspace_of, journey_left}
 use Rattle.repository.specs.NetOf.{net_of}
 use Rattle.repository.specs.Checked.{check_of}

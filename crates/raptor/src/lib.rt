@@ -4,63 +4,53 @@
 mod searching; // searching.rt: a query that nothing refuses is searched
 
 ghost use Rattle.std.specs.Prelude.{◌≡◌, length};
+ghost use Rattle.model.specs.Refusal.{number_given};
 ghost use Rattle.repository.specs.Accepted.{Accepted};
 ghost use Rattle.repository.specs.NetOf.{net_of};
 ghost use Rattle.repository.specs.Checked.{check_of};
 ghost use Rattle.raptor.specs.Lent.{lent};
-ghost use Rattle.raptor.specs.Solved.{room_for, Solved};
-ghost use Rattle.raptor.specs.Rooms.{room_of};
+ghost use Rattle.raptor.specs.Solved.{Solved};
+ghost use Rattle.raptor.specs.Rooms.{lengths_of, room_of};
 
-use model::{Answer, Query};
+use model::{Answer, Error, Query, Refusal};
 
-// The number of the tables: 0, or the lowest of 1 to 5 of which they have a fault.
-pub fn check(tables: &[u32]) -> u32
-    ensures { result ≡ check_of tables.now }
+// Why the tables are refused, if they are: the lowest of 1 to 5 of which they have a fault.
+pub fn check(tables: &[u32]) -> Result<(), Refusal>
+    ensures { number_given result ≡ check_of tables.now }
 {
     check_tables::check(tables)
 }
 
-// How long each slice of the workspace is to be, or the number that the tables are refused with.
-#[derive(Clone, Copy)]
-pub enum Needed {
-    Lengths {
-        words: usize,
-        marks: usize,
-        places: usize,
-    },
-    Refused(u32),
+// How long each slice of the workspace is.
+#[derive(Clone, Copy, Debug, PartialEq, Eq)]
+pub struct Lengths {
+    pub words: usize,
+    pub marks: usize,
+    pub places: usize,
 }
 
-// The lengths that the tables ask for.
-pub fn room(tables: &[u32]) -> Needed
+// The lengths that so many stops and routes ask for.
+fn lengths_for(stops: u32, routes: u32) -> Lengths
+    ensures { result ≡ lengths_of stops routes }
+{
+    Lengths {
+        words: allocator::words_room(stops, routes),
+        marks: allocator::marks_room(stops, routes),
+        places: stops as usize + stops as usize,
+    }
+}
+
+// The lengths that the tables ask for, or why they are refused.
+pub fn room(tables: &[u32]) -> Result<Lengths, Refusal>
     ensures { result ≡ room_of tables.now }
 {
-    let number = check(tables);
-    if number == 0 {
-        let stops = repository::places::stop_count(tables);
-        let routes = repository::routes::route_count(tables);
-        return Needed::Lengths {
-            words: allocator::words_room(stops, routes),
-            marks: allocator::marks_room(stops, routes),
-            places: stops as usize + stops as usize,
-        };
-    }
-    Needed::Refused(number)
+    check(tables)?;
+    let stops = repository::places::stop_count(tables);
+    let routes = repository::routes::route_count(tables);
+    Ok(lengths_for(stops, routes))
 }
 
-// Whether slices of these lengths are a workspace for so many stops and routes.
-fn has_room(stops: u32, routes: u32, words: usize, marks: usize, places: usize) -> bool
-    ensures { result ≡ room_for stops routes words marks places }
-{
-    if words == allocator::words_room(stops, routes) {
-        if marks == allocator::marks_room(stops, routes) {
-            return places == stops as usize + stops as usize;
-        }
-    }
-    false
-}
-
-// `solve`, for tables that `check` answered with 0.
+// `solve`, for tables that `check` does not refuse.
 pub fn solve_checked(
     tables: &[u32],
     words: &mut [u32],
@@ -74,21 +64,21 @@ pub fn solve_checked(
         (lent words.old marks.old places.old journey.old) result
         (lent words.new marks.new places.new journey.new) }
 {
-    let a = searching::ask_of(tables, q);
-    let stops = a.stops;
-    let routes = a.routes;
-    if has_room(stops, routes, words.len(), marks.len(), places.len()) {
-        let number = raptor_query::refusal(tables, q);
-        if number == 0 {
-            return searching::run(tables, words, marks, places, journey, a, q);
-        }
-        return Answer::Refused(number);
+    let ask = searching::ask_of(tables, q);
+    let lent = Lengths {
+        words: words.len(),
+        marks: marks.len(),
+        places: places.len(),
+    };
+    if lent != lengths_for(ask.stops, ask.routes) {
+        return Err(Error::Refused(Refusal::Room));
     }
-    Answer::Refused(6)
+    raptor_query::refusal(tables, q)?;
+    searching::run(tables, words, marks, places, journey, ask, q)
 }
 
-// The journey that a query asks for, or the number that says why there is none: the lowest that applies. Everything is checked,
-// and everything is answered.
+// The journey that a query asks for, or why there is none: the lowest refusal that applies. Everything is checked, and everything is
+// answered.
 pub fn solve(
     tables: &[u32],
     words: &mut [u32],
@@ -101,9 +91,6 @@ pub fn solve(
         (lent words.old marks.old places.old journey.old) result
         (lent words.new marks.new places.new journey.new) }
 {
-    let number = check(tables);
-    if number == 0 {
-        return solve_checked(tables, words, marks, places, journey, q);
-    }
-    Answer::Refused(number)
+    check(tables)?;
+    solve_checked(tables, words, marks, places, journey, q)
 }

@@ -21,21 +21,13 @@ pub fn ask_of(tables: &[u32], q: Query) -> Ask
     requires { Accepted tables.now }
     ensures { result ≡ ask_of (net_of tables.now) q }
 {
-    let mode = q.mode;
-    let time = q.time;
-    let walks = q.walks;
-    let stops = repository::places::stop_count(tables);
-    let routes = repository::routes::route_count(tables);
-    let d = raptor_query::direction_of(time);
-    let walking = raptor_query::may_walk(walks);
-    let t = raptor_query::moment_of(time);
     Ask {
-        stops: stops,
-        routes: routes,
-        direction: d,
-        mode: mode,
-        walking: walking,
-        moment: t,
+        stops: repository::places::stop_count(tables),
+        routes: repository::routes::route_count(tables),
+        direction: raptor_query::direction_of(q.time),
+        mode: q.mode,
+        walking: raptor_query::may_walk(q.walks),
+        moment: raptor_query::moment_of(q.time),
     }
 }
 
@@ -69,19 +61,11 @@ fn search_for<'a>(
         ≡ searched (net_of tables.now) q }
     ensures usable { Usable a.stops a.routes words.new marks.new }
 {
-    let stops = a.stops;
-    let d = a.direction;
-    let from = q.from;
-    let to = q.to;
-    let left = stops_of(tables, stops, from, origins);
-    let reached = stops_of(tables, stops, to, goals);
-    match d {
-        Direction::Departure => {
-            return raptor_rounds::search(tables, words, marks, a, left, reached);
-        }
-        Direction::Arrival => {
-            return raptor_rounds::search(tables, words, marks, a, reached, left);
-        }
+    let left = stops_of(tables, a.stops, q.from, origins);
+    let reached = stops_of(tables, a.stops, q.to, goals);
+    match a.direction {
+        Direction::Departure => raptor_rounds::search(tables, words, marks, a, left, reached),
+        Direction::Arrival => raptor_rounds::search(tables, words, marks, a, reached, left),
     }
 }
 
@@ -106,13 +90,9 @@ fn search_in<'a>(
         ≡ searched (net_of tables.now) q }
     ensures usable { Usable a.stops a.routes words.new marks.new }
 {
-    let i = sizes.origins;
-    let k = sizes.goals;
-    let stops = a.stops;
-    let half = stops as usize;
-    let end = half + k;
-    let origins = &places[..i];
-    let goals = &places[half..end];
+    let half = a.stops as usize;
+    let origins = &places[..sizes.origins];
+    let goals = &places[half..half + sizes.goals];
     search_for(tables, words, marks, origins, goals, a, q)
 }
 
@@ -134,10 +114,7 @@ fn place_and_search(
     ensures places_after { places.new
         ≡ placed (net_of tables.now) q.from ++ placed (net_of tables.now) q.to }
 {
-    let stops = a.stops;
-    let from = q.from;
-    let to = q.to;
-    let sizes = raptor_query::write_places(tables, places, stops, from, to);
+    let sizes = raptor_query::write_places(tables, places, a.stops, q.from, q.to);
     search_in(tables, words, marks, places, sizes, a, q)
 }
 
@@ -157,9 +134,6 @@ pub fn run(
     ensures { Ran (net_of tables.now) q journey.old result
         (lent words.new marks.new places.new journey.new) }
 {
-    let stops = a.stops;
-    let routes = a.routes;
-    let d = a.direction;
     let aimed = place_and_search(tables, words, marks, places, a, q);
-    raptor_reply::reply(words, journey, stops, routes, d, aimed)
+    raptor_reply::reply(words, journey, a.stops, a.routes, a.direction, aimed)
 }

@@ -1,3 +1,2 @@
 -- The laws behind the proofs of `raptor_query`.
 pub mod Places
-pub mod Refusals

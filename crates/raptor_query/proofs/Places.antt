@@ -1,64 +1,27 @@
 -- A place of a query: whether it exists, whether it is barren, what is written of it.
 use Prim.Native.Nat.{ℕ, suc, ◌+◌, ◌-◌, ◌≤◌}
 use mathlib.Core.Path.{◌≡◌, refl, sym, ap, ◌∙◌}
-use mathlib.Core.Bool.{Bool, true, false}
+use mathlib.Core.Bool.{false}
 use mathlib.Core.List.{List, [], ◌∷◌, ◌++◌, append-nil}
 use native.Mathlib.Omega.{arith}
-use lib.Dec.{ltb, eqb}
+use lib.Dec.{eqb}
 use lib.ListN.{length, take, drop, replicate, length-append, length-drop, drop_of_length-le}
 use lib.Seq.{take_at, drop-drop, length-take-le}
 use borrow.Author.Tests.{ne_eqb}
 use borrow.Rule.Slice.PartMut.{mid_of, put_mid, mid_len}
 use Rattle.model.specs.declared.Location.{Location}
 use Rattle.model.specs.declared.Location.TheVariants.{Stop, Area}
-use Rattle.model.specs.declared.TimeConstraint.{TimeConstraint}
-use Rattle.model.specs.declared.TimeConstraint.TheVariants.{Departure, Arrival}
-use Rattle.model.specs.declared.Walks.{Walks}
-use Rattle.model.specs.declared.Walks.TheVariants.{Unsaid, Allowed, Barred}
-use Rattle.shared.specs.declared.Time.{Time}
 use Rattle.model.specs.Tables.{Net}
-use Rattle.model.specs.Places.{exists, barren, unserved, stops_of_area}
-use Rattle.model.specs.Answer.{may_walk, moment_of}
+use Rattle.model.specs.Places.{barren, unserved, stops_of_area}
 use Rattle.model.specs.Left.{placed}
 use Rattle.raptor_query.specs.Areas.{area_part}
-
-pub unsaid : {walks : Walks} → walks ≡ Unsaid → true ≡ may_walk walks
-unfolding may_walk
-unsaid e = rw e
-
-pub allowed : {walks : Walks} → walks ≡ Allowed → true ≡ may_walk walks
-unfolding may_walk
-allowed e = rw e
-
-pub barred : {walks : Walks} → walks ≡ Barred → false ≡ may_walk walks
-unfolding may_walk
-barred e = rw e
-
-pub departs : {time : TimeConstraint} {t : Time} → time ≡ Departure t → t.0 ≡ moment_of time
-unfolding moment_of
-departs e = rw e
-
-pub arrives : {time : TimeConstraint} {t : Time} → time ≡ Arrival t → t.0 ≡ moment_of time
-unfolding moment_of
-arrives e = rw e
 
 none_served : (ss : List ℕ) → eqb (length ss) 0 ≡ unserved ss
 unfolding unserved
 none_served [] = refl
 none_served (s ∷ ss) = ne_eqb (suc (length ss)) 0 (λ e. omega arith)
 
-pub is_there : {b : Bool} (n : Net) (l : Location) → b ≡ exists n l → b ≡ true → exists n l ≡ true
-is_there n l e f = sym e ∙ f
-
 module _ (n : Net) {l : Location} where
-  pub stop_exists : {s stops : ℕ} → l ≡ Stop s → stops ≡ n.stops → ltb s stops ≡ exists n l
-  unfolding exists
-  stop_exists e f = rw (e, f)
-
-  pub area_exists : {a areas : ℕ} → l ≡ Area a → areas ≡ n.areas → ltb a areas ≡ exists n l
-  unfolding exists
-  area_exists e f = rw (e, f)
-
   pub stop_not_barren : {s : ℕ} → l ≡ Stop s → false ≡ barren n l
   unfolding barren
   stop_not_barren e = rw e

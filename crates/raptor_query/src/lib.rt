@@ -3,17 +3,19 @@
 
 ghost use Rattle.std.specs.Prelude.{◌≡◌, true, ◌++◌, ◌+◌, length};
 ghost use Rattle.model.specs.Places.{exists as existing, barren};
-ghost use Rattle.model.specs.Answer.{may_walk, moment_of, refusal as refusal_of};
+ghost use Rattle.model.specs.Answer.{may_walk, moment_of, refusal};
 ghost use Rattle.model.specs.Left.{placed};
+ghost use Rattle.model.specs.Refusal.{number_given};
 ghost use Rattle.repository.specs.Accepted.{Accepted};
 ghost use Rattle.repository.specs.NetOf.{net_of};
 ghost use Rattle.raptor_query.specs.Areas.{area_part};
 ghost use Rattle.raptor_query.specs.Directed.{direction_of};
 
-use model::{Direction, Location, Query, TimeConstraint, Walks};
+use model::{Direction, Location, Query, Refusal, TimeConstraint, Walks};
 use shared::Time;
 
 // Whether a place exists.
+#[tactic(auto, unfolding(model::specs::Places::exists))]
 fn exists(tables: &[u32], l: Location) -> bool
     requires { Accepted tables.now }
     ensures { result ≡ existing (net_of tables.now) l }
@@ -37,12 +39,12 @@ fn is_barren(tables: &[u32], l: Location) -> bool
 }
 
 // The query moment.
+#[tactic(auto, unfolding(model::specs::Answer::moment_of))]
 pub fn moment_of(time: TimeConstraint) -> Time
     ensures { result.0 ≡ moment_of time }
 {
     match time {
-        TimeConstraint::Departure(t) => t,
-        TimeConstraint::Arrival(t) => t,
+        TimeConstraint::Departure(t) | TimeConstraint::Arrival(t) => t,
     }
 }
 
@@ -57,42 +59,30 @@ pub fn direction_of(time: TimeConstraint) -> Direction
 }
 
 // Walking is allowed where a query does not say.
+#[tactic(auto, unfolding(model::specs::Answer::may_walk))]
 pub fn may_walk(walks: Walks) -> bool
     ensures { result ≡ may_walk walks }
 {
-    match walks {
-        Walks::Unsaid => true,
-        Walks::Allowed => true,
-        Walks::Barred => false,
-    }
+    matches!(walks, Walks::Unsaid | Walks::Allowed)
 }
 
-// The lowest of 7, 8 and 9 that applies, 0 where none does.
-pub fn refusal(tables: &[u32], q: Query) -> u32
+// Why a query is refused, if it is: the lowest of 7, 8 and 9 that applies.
+#[tactic(auto, unfolding(model::specs::Answer::refusal))]
+pub fn refusal(tables: &[u32], q: Query) -> Result<(), Refusal>
     requires { Accepted tables.now }
-    ensures { result ≡ refusal_of (net_of tables.now) q }
+    ensures { number_given result ≡ refusal (net_of tables.now) q }
 {
-    let from = q.from;
-    let to = q.to;
-    let time = q.time;
-    if exists(tables, from) {
-        if exists(tables, to) {
-            let t = moment_of(time).0;
-            if 1 <= t {
-                if t <= repository::limits::LAST_MOMENT {
-                    if is_barren(tables, from) {
-                        return 9;
-                    }
-                    if is_barren(tables, to) {
-                        return 9;
-                    }
-                    return 0;
-                }
-            }
-            return 8;
-        }
+    if !exists(tables, q.from) || !exists(tables, q.to) {
+        return Err(Refusal::Place);
     }
-    7
+    let t = moment_of(q.time).0;
+    if t < 1 || repository::limits::LAST_MOMENT < t {
+        return Err(Refusal::Moment);
+    }
+    if is_barren(tables, q.from) || is_barren(tables, q.to) {
+        return Err(Refusal::Barren);
+    }
+    Ok(())
 }
 
 // Writes the stops of an area and zeros behind them, for a stop zeros alone, and says how many stops were written.
@@ -105,8 +95,8 @@ fn write_place(tables: &[u32], half: &mut [u32], l: Location) -> usize
 {
     match l {
         Location::Stop(_) => {
-            discovery::places::clear(half);
-            return 0;
+            half.fill(0);
+            0
         }
         Location::Area(a) => discovery::places::area_stops(tables, a, half),
     }
@@ -137,10 +127,7 @@ pub fn write_places(
     ensures goals_value { result.goals ≡ length (area_part (net_of tables.now) to) }
 {
     let half = stops as usize;
-    let a = write_place(tables, &mut places[..half], from);
-    let b = write_place(tables, &mut places[half..], to);
-    Sizes {
-        origins: a,
-        goals: b,
-    }
+    let origins = write_place(tables, &mut places[..half], from);
+    let goals = write_place(tables, &mut places[half..], to);
+    Sizes { origins, goals }
 }

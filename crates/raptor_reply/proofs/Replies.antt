@@ -3,13 +3,14 @@ use Prim.Native.Nat.{ℕ, ◌≤◌, ◌<◌}
 use mathlib.Core.Path.{◌≡◌, refl, sym, ap, ◌∙◌}
 use mathlib.Core.Bool.{Bool, cond}
 use mathlib.Core.List.{List, [], ◌∷◌, ◌++◌}
-use mathlib.Core.Option.{Option}
+use Rattle.std.specs.Prelude.{Option, Ok, Err}
 use native.Mathlib.Omega.{arith}
 use lib.Dec.{leb}
 use lib.ListN.{length, drop, length-reverse}
 use borrow.Author.Tests.{eq-eqb, ne_eqb, le-leb, lt-leb}
-use Rattle.shared.specs.declared.Time.{Time}
-use Rattle.model.specs.declared.Answer.TheVariants.{Found, NoRouteFound, TooLong}
+use Rattle.model.specs.declared.Error.{Error}
+use Rattle.model.specs.declared.Error.TheVariants.{NoRouteFound, TooLong}
+use Rattle.model.specs.declared.Found.{Found}
 use Rattle.model.specs.declared.Direction.{Direction}
 use Rattle.model.specs.declared.Direction.TheVariants.{Departure, Arrival}
 use Rattle.model.specs.declared.Leg.{Leg}
@@ -17,7 +18,7 @@ use Rattle.model.specs.declared.Target.{Target}
 use Rattle.model.specs.Limits.{MOST_ROUNDS}
 use Rattle.model.specs.Back.{back, in_order}
 use Rattle.model.specs.Bytes.{write, size_of}
-use Rattle.model.specs.Answer.{reply_to, reply}
+use Rattle.model.specs.Answer.{found, reply_to, reply}
 use Rattle.model.specs.Left.{written}
 use Rattle.model.proofs.ReadBack.{size_is}
 use Rattle.path.specs.Traced.{Traced}
@@ -26,17 +27,13 @@ use Rattle.path.proofs.Reached.{some_leg}
 use Rattle.raptor_reply.specs.Chosen.{Chosen, legs_back}
 
 -- "10 no chosen stop"
-pub none_chosen : (room : ℕ) (aimed : Target) (gs : List Leg) → aimed.time.0 ≡ 0 → NoRouteFound ≡ reply room aimed gs
+pub none_chosen : (room : ℕ) (aimed : Target) (gs : List Leg) → aimed.time.0 ≡ 0 → Err NoRouteFound ≡ reply room aimed gs
 unfolding reply
-none_chosen room aimed gs e = ap (λ (b : Bool). cond b NoRouteFound (reply_to room aimed gs)) (sym (eq-eqb aimed.time.0 0 e))
+none_chosen room aimed gs e = ap (λ (b : Bool). cond b (Err NoRouteFound) (reply_to room aimed gs)) (sym (eq-eqb aimed.time.0 0 e))
 
-pub none_written : (gs : List Leg) (buffer : List ℕ) → buffer ≡ written NoRouteFound gs buffer
+pub unwritten : (e : Error) (gs : List Leg) (buffer : List ℕ) → buffer ≡ written (Err e) gs buffer
 unfolding written
-none_written gs buffer = refl
-
-pub long_unwritten : (z : ℕ) (gs : List Leg) (buffer : List ℕ) → buffer ≡ written (TooLong z) gs buffer
-unfolding written
-long_unwritten z gs buffer = refl
+unwritten e gs buffer = refl
 
 ordered_some : (d : Direction) (gs : List Leg) → 0 < length gs → 0 < length (in_order d gs)
 unfolding in_order
@@ -67,32 +64,32 @@ module _ {d : Direction} {stops : ℕ} {w : List (Option Leg)} {aimed : Target} 
     size = let gs = back d stops w stops aimed.round aimed.stop in ez ∙ sym (order_size d gs) ∙ size_is (in_order d gs)
 
     to : (room : ℕ) (gs : List Leg) → 0 < length gs → z ≡ size_of gs
-        → reply_to room aimed gs ≡ cond (leb z room) (Found aimed.time aimed.stop aimed.round z) (TooLong z)
+        → reply_to room aimed gs ≡ cond (leb z room) (found aimed z) (Err (TooLong z))
     unfolding reply_to
     to room [] h e = absurd (omega arith)
     to room (v ∷ vs) h e = rw e
 
     replied : (room : ℕ) → reply room aimed (legs_back d stops w aimed)
-        ≡ cond (leb z room) (Found aimed.time aimed.stop aimed.round z) (TooLong z)
+        ≡ cond (leb z room) (found aimed z) (Err (TooLong z))
     unfolding reply
     replied room = rw (ne_eqb aimed.time.0 0 at) (to room (legs_back d stops w aimed) some size)
 
     -- "12 journey longer than its buffer"
-    pub too_long : (room : ℕ) → room < z → TooLong z ≡ reply room aimed (legs_back d stops w aimed)
+    pub too_long : (room : ℕ) → room < z → Err (TooLong z) ≡ reply room aimed (legs_back d stops w aimed)
     too_long room h =
-        ap (λ (b : Bool). cond b (Found aimed.time aimed.stop aimed.round z) (TooLong z)) (sym (lt-leb z room h))
+        ap (λ (b : Bool). cond b (found aimed z) (Err (TooLong z))) (sym (lt-leb z room h))
         ∙ sym (replied room)
 
-    pub found : (room : ℕ) → z ≤ room → Found aimed.time aimed.stop aimed.round z ≡ reply room aimed (legs_back d stops w aimed)
-    found room h =
-        ap (λ (b : Bool). cond b (Found aimed.time aimed.stop aimed.round z) (TooLong z)) (sym (le-leb z room h))
+    pub fits : (room : ℕ) → z ≤ room → found aimed z ≡ reply room aimed (legs_back d stops w aimed)
+    fits room h =
+        ap (λ (b : Bool). cond b (found aimed z) (Err (TooLong z))) (sym (le-leb z room h))
         ∙ sym (replied room)
 
     -- "On 0 bytes past the journey stay unchanged."
-    pub found_written : (t : Time) (s k : ℕ) {after : List ℕ} (before : List ℕ)
+    pub found_written : (f : Found) {after : List ℕ} (before : List ℕ)
         → after ≡ write (in_order d (back d stops w stops aimed.round aimed.stop)) ++ drop z before
-        → after ≡ written (Found t s k z) (legs_back d stops w aimed) before
+        → after ≡ written (Ok f) (legs_back d stops w aimed) before
     unfolding written legs_back
-    found_written t s k before e =
+    found_written f before e =
         let gs = back d stops w stops aimed.round aimed.stop in
         e ∙ ap (λ (x : ℕ). write (in_order d gs) ++ drop x before) (ez ∙ sym (order_size d gs))

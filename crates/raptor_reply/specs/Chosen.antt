@@ -1,6 +1,6 @@
 -- What a search leaves that the reply rests on: where a stop is chosen, the parents lead from it to a beginning.
 use Rattle.std.specs.Prelude.{ℕ, ◌<◌, List}
-use Rattle.std.proofs.Math.Option.{Option}
+use Rattle.std.specs.Prelude.{Option}
 use Rattle.model.specs.declared.Direction.{Direction}
 use Rattle.model.specs.declared.Leg.{Leg}
 use Rattle.model.specs.declared.Target.{Target}

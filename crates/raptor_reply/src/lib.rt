@@ -7,7 +7,7 @@ ghost use Rattle.model.specs.Left.{written};
 ghost use Rattle.allocator.specs.Layout.{Words, parents_of};
 ghost use Rattle.raptor_reply.specs.Chosen.{Chosen, legs_back};
 
-use model::{Answer, Direction, Target};
+use model::{Answer, Direction, Error, Found, Target};
 
 // 10 where no stop is chosen; 12 where the journey is longer than its buffer, which stays as it was; else 0, and the
 // journey stands in the first bytes.
@@ -26,21 +26,19 @@ pub fn reply(
     ensures journey_after { journey.new
         ≡ written result (legs_back d stops (parents_of stops routes words.now) aimed) journey.old }
 {
-    let t = aimed.time;
-    if t.0 == 0 {
-        return Answer::NoRouteFound;
+    let Target { stop, round, time } = aimed;
+    if time.0 == 0 {
+        return Err(Error::NoRouteFound);
     }
-    let k = aimed.round;
-    let s = aimed.stop;
-    let size = path::size_back(words, stops, routes, d, k, s);
-    if journey.len() < size {
-        return Answer::TooLong(size);
+    let length = path::size_back(words, stops, routes, d, round, stop);
+    if journey.len() < length {
+        return Err(Error::TooLong(length));
     }
-    path::backtrack(words, journey, stops, routes, d, k, s, size);
-    Answer::Found {
-        time: t,
-        stop: s,
-        round: k,
-        length: size,
-    }
+    path::backtrack(words, journey, stops, routes, d, round, stop, length);
+    Ok(Found {
+        time,
+        stop,
+        round,
+        length,
+    })
 }

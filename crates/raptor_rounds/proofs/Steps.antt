@@ -1,6 +1,6 @@
 -- The steps of a round, one after the other: each law in the shape of what `next_round` and its parts ask.
 use Prim.Native.Nat.{ℕ, ◌<◌}
-use mathlib.Core.Path.{◌≡◌, sym, ap, ◌∙◌, subst}
+use mathlib.Core.Path.{sym, ◌∙◌, subst}
 use mathlib.Core.Bool.{Bool}
 use mathlib.Core.List.{List}
 use Rattle.model.specs.declared.Direction.{Direction}
@@ -10,63 +10,47 @@ use Rattle.model.specs.Tables.{Net}
 use Rattle.model.specs.Work.{Work}
 use Rattle.model.specs.Choosing.{Placed}
 use Rattle.repository.specs.NetOf.{net_of}
-use Rattle.allocator.specs.Layout.{view}
-use Rattle.allocator.specs.Does.{Does}
+use Rattle.allocator.specs.Workspace.{state, SameSlices, Becomes}
+use Rattle.allocator.specs.declared.Workspace.{Workspace}
 use Rattle.allocator.specs.Operations.{holding}
 use Rattle.explorer.specs.declared.Round.{Round}
 use Rattle.explorer.specs.Fixed.{Fixed, InRound}
-use Rattle.explorer.specs.Fused.{rides_work, feet_work}
+use Rattle.explorer.proofs.Fixed.{fixed_same, in_round_same}
+use Rattle.explorer.specs.Fused.{rides_work}
 use Rattle.explorer_choosing.specs.Chosen.{opened_by}
 use Rattle.explorer_footpaths.specs.Footing.{Footing}
+use Rattle.base.specs.Below.{Below}
 use Rattle.raptor_rounds.specs.Tabled.{Tabled}
-use Rattle.raptor_rounds.specs.OneRound.{round_work, Ready}
+use Rattle.raptor_rounds.specs.OneRound.{Ready}
 
 -- ---- what stays fixed
 
 pub tabled_fixed : {w : List ℕ} {stops routes : ℕ} → Tabled w stops routes → Fixed w stops routes
 tabled_fixed x = x.known tt
 
-pub in_round : {w : List ℕ} (round : Round) → Tabled w round.stops round.routes → round.number < MOST_ROUNDS → InRound w round
-in_round round x lt = record { fixed = x.known tt; number = lt }
+module _ {w₁ w' : Workspace} (s : SameSlices w₁ w') where
+  pub tabled_same : {w : List ℕ} → Tabled w w₁.stops w₁.routes → Tabled w w'.stops w'.routes
+  tabled_same x = record { known = λ _. fixed_same s (x.known tt) }
 
-module _ {d : Direction} {mode : Mode} {walking : Bool} {n : Net} {k target : ℕ} {w : Work} (h : Ready d mode walking n k target w) where
-  pub ready_early : k < MOST_ROUNDS
-  ready_early = h.early
+  pub in_round : {w : List ℕ} (round : Round) → Tabled w w₁.stops w₁.routes → round.number < MOST_ROUNDS → InRound w w'.stops w'.routes round
+  in_round round x lt = in_round_same s (record { fixed = x.known tt; number = lt })
 
--- ---- the first half
+  pub below_same : {l : List ℕ} → Below w₁.stops l → Below w'.stops l
+  below_same b = rw s.stops_same b
 
-module _ (mode : Mode) (d : Direction) (n : Net) {stops routes : ℕ} {ws ms ws₁ ms₁ : List ℕ} (opens : Does stops routes (opened_by mode d n) ws ms ws₁ ms₁) where
-  pub ready_placed : {walking : Bool} {k target : ℕ} → Ready d mode walking n k target (view stops routes ws ms) → Placed d n (view stops routes ws₁ ms₁)
-  ready_placed h = subst (λ (x : Work). Placed d n x) (sym opens.holds) h.placed
+-- ---- what a half finds
 
-  pub rides_do : (k target : ℕ) {ws' ms' : List ℕ} → Does stops routes (rides_work d n k target) ws₁ ms₁ ws' ms'
-      → Does stops routes (λ x. rides_work d n k target (opened_by mode d n x)) ws ms ws' ms'
-  rides_do k target x = record { holds = x.holds ∙ ap (rides_work d n k target) opens.holds; usable = x.usable }
+pub ready_placed : (mode : Mode) (d : Direction) (n : Net) {w w₁ : Workspace} {walking : Bool} {k target : ℕ} → Becomes (opened_by mode d n) w w₁
+    → Ready d mode walking n k target (state w) → Placed d n (state w₁)
+ready_placed mode d n opens h = subst (λ (x : Work). Placed d n x) (sym opens.holds) h.placed
 
--- ---- the second half
+pub footing_held : {w w₁ : Workspace} → Becomes holding w w₁ → Footing w.stops (holding (state w)) → Footing w₁.stops (state w₁)
+footing_held {w} {w₁} p h =
+    subst (λ (i : ℕ). Footing i (state w₁)) (sym p.same.stops_same) (subst (Footing w.stops) (sym p.holds) h)
 
-module _ {stops routes : ℕ} {ws ms ws₁ ms₁ : List ℕ} (holds : Does stops routes holding ws ms ws₁ ms₁) where
-  pub footing_held : {many : ℕ} → Footing many (holding (view stops routes ws ms)) → Footing many (view stops routes ws₁ ms₁)
-  footing_held {many} h = subst (Footing many) (sym holds.holds) h
-
-  pub feet_do : (d : Direction) (n : Net) (k target : ℕ) (walking : Bool) {ws' ms' : List ℕ}
-      → Does stops routes (feet_work d n k target walking) ws₁ ms₁ ws' ms' → Does stops routes (λ x. feet_work d n k target walking (holding x)) ws ms ws' ms'
-  feet_do d n k target walking x = record { holds = x.holds ∙ ap (feet_work d n k target walking) holds.holds; usable = x.usable }
-
--- ---- both
-
-module _ (w : List ℕ) (d : Direction) (mode : Mode) (walking : Bool) (k target : ℕ) {stops routes : ℕ} {ws ms ws₁ ms₁ : List ℕ}
-    (rides : Does stops routes (λ x. rides_work d (net_of w) k target (opened_by mode d (net_of w) x)) ws ms ws₁ ms₁) where
-  pub ready_footing : Tabled w stops routes → Ready d mode walking (net_of w) k target (view stops routes ws ms) → Footing stops (holding (view stops routes ws₁ ms₁))
-  ready_footing x h = rw (x.known tt).net_stops (subst (λ (x : Work). Footing (net_of w).stops (holding x)) (sym (as_net x)) h.footing)
-    where
-      as_net : Tabled w stops routes → view (net_of w).stops routes ws₁ ms₁ ≡ rides_work d (net_of w) k target (opened_by mode d (net_of w) (view stops routes ws ms))
-      as_net x = subst (λ (i : ℕ). view i routes ws₁ ms₁ ≡ rides_work d (net_of w) k target (opened_by mode d (net_of w) (view stops routes ws ms))) (x.known tt).net_stops rides.holds
-
-  pub round_does : {ws' ms' : List ℕ} → Does stops routes (λ x. feet_work d (net_of w) k target walking (holding x)) ws₁ ms₁ ws' ms'
-      → Does stops routes (round_work d mode walking (net_of w) k target) ws ms ws' ms'
-  unfolding round_work
-  round_does x = record {
-    holds = x.holds ∙ ap (λ (x : Work). feet_work d (net_of w) k target walking (holding x)) rides.holds;
-    usable = x.usable;
-  }
+pub ready_footing : (tables : List ℕ) (d : Direction) (mode : Mode) (walking : Bool) (k target : ℕ) {w w₁ : Workspace}
+    → Becomes (λ x. rides_work d (net_of tables) k target (opened_by mode d (net_of tables) x)) w w₁
+    → Tabled tables w.stops w.routes → Ready d mode walking (net_of tables) k target (state w) → Footing w₁.stops (holding (state w₁))
+ready_footing tables d mode walking k target {w} {w₁} rides x h =
+    subst (λ (i : ℕ). Footing i (holding (state w₁))) (sym (rides.same.stops_same ∙ (x.known tt).net_stops))
+    (subst (λ (x : Work). Footing (net_of tables).stops (holding x)) (sym rides.holds) h.footing)

@@ -7,10 +7,11 @@ ghost use Rattle.model.specs.Round.{aim, listed};
 ghost use Rattle.model.specs.Search.{search as search_of};
 ghost use Rattle.model.specs.Work.{state_of};
 ghost use Rattle.repository.specs.NetOf.{net_of};
-ghost use Rattle.allocator.specs.Layout.{Words, Sized, view, best_of};
-ghost use Rattle.allocator.specs.Does.{Usable, Does};
+ghost use Rattle.allocator.specs.Layout.{Sized, view};
+ghost use Rattle.allocator.specs.Does.{Usable};
 ghost use Rattle.allocator.specs.Operations.{holding};
 ghost use Rattle.allocator.specs.Repeated.{started_all};
+ghost use Rattle.allocator.specs.Workspace.{state, best, SameSlices, Becomes};
 ghost use Rattle.explorer.specs.Fused.{rides_work, feet_work};
 ghost use Rattle.explorer_choosing.specs.Chosen.{opened_by};
 ghost use Rattle.explorer_footpaths.specs.Footing.{Footing};
@@ -20,27 +21,18 @@ ghost use Rattle.raptor_rounds.specs.OneRound.{round_work, Ready};
 ghost use Rattle.base.specs.Below.{Below};
 ghost use Rattle.raptor_rounds.specs.Targets.{taken};
 
+use allocator::Workspace;
 use explorer::Round;
 use model::{Direction, Mode, Target};
 use shared::Time;
 
 // The target after goal s: the goal's best moment is taken where it is strictly better.
-fn aim_at(
-    words: &[u32],
-    stops: u32,
-    routes: u32,
-    d: Direction,
-    k: u32,
-    s: u32,
-    aimed: Target,
-) -> Target
-    requires words { Words stops routes words.now }
-    requires s_lt_stops { s < stops }
-    ensures { result ≡ taken d k (best_of stops routes words.now) s aimed }
+fn aim_at(workspace: &Workspace, d: Direction, k: u32, s: u32, aimed: Target) -> Target
+    requires { s < workspace.now.stops }
+    ensures { result ≡ taken d k (best workspace.now) s aimed }
 {
-    let t = allocator::best_at(words, stops, routes, s);
-    let seen = aimed.time;
-    if allocator::is_better(d, t, seen) {
+    let t = workspace.best(s);
+    if allocator::is_better(d, t, aimed.time) {
         return Target {
             stop: s,
             round: k,
@@ -51,76 +43,42 @@ fn aim_at(
 }
 
 // The end of a round: the goals in list order, strict improvements only.
-fn scan_targets(
-    words: &[u32],
-    stops: u32,
-    routes: u32,
-    d: Direction,
-    k: u32,
-    goals: &[u32],
-    aimed: Target,
-) -> Target
-    requires words { Words stops routes words.now }
-    requires below { Below stops goals.now }
-    ensures { result ≡ aim d k (best_of stops routes words.now) goals.now aimed }
+fn scan_targets(workspace: &Workspace, d: Direction, k: u32, goals: &[u32], aimed: Target) -> Target
+    requires { Below workspace.now.stops goals.now }
+    ensures { result ≡ aim d k (best workspace.now) goals.now aimed }
 {
     let mut seen = aimed;
-    let mut i = 0;
-    while i < goals.len() {
-        seen = aim_at(words, stops, routes, d, k, goals[i], seen);
-        i += 1;
+    for &s in goals {
+        seen = aim_at(workspace, d, k, s, seen);
     }
     seen
 }
 
 // The end of a round: the target record, updated where it stands.
-fn update_target(
-    words: &[u32],
-    stops: u32,
-    routes: u32,
-    d: Direction,
-    k: u32,
-    goals: &[u32],
-    target: &mut Target,
-)
-    requires words { Words stops routes words.now }
-    requires below { Below stops goals.now }
-    ensures { target.new ≡ aim d k (best_of stops routes words.now) goals.now target.old }
+fn update_target(workspace: &Workspace, d: Direction, k: u32, goals: &[u32], target: &mut Target)
+    requires { Below workspace.now.stops goals.now }
+    ensures { target.new ≡ aim d k (best workspace.now) goals.now target.old }
 {
-    let aimed = *target;
-    *target = scan_targets(words, stops, routes, d, k, goals, aimed);
+    *target = scan_targets(workspace, d, k, goals, *target);
 }
 
 // The target after a round: the record is lent to the scan.
-fn target_after(
-    words: &[u32],
-    stops: u32,
-    routes: u32,
-    d: Direction,
-    k: u32,
-    goals: &[u32],
-    aimed: Target,
-) -> Target
-    requires words { Words stops routes words.now }
-    requires below { Below stops goals.now }
-    ensures { result ≡ aim d k (best_of stops routes words.now) goals.now aimed }
+fn target_after(workspace: &Workspace, d: Direction, k: u32, goals: &[u32], aimed: Target) -> Target
+    requires { Below workspace.now.stops goals.now }
+    ensures { result ≡ aim d k (best workspace.now) goals.now aimed }
 {
     let mut target = aimed;
-    update_target(words, stops, routes, d, k, goals, &mut target);
+    update_target(workspace, d, k, goals, &mut target);
     target
 }
 
 // Labels and marks every start stop.
-fn start_all(words: &mut [u32], marks: &mut [u64], stops: u32, routes: u32, starts: &[u32], t: Time)
-    requires usable { Usable stops routes words.old marks.old }
-    requires below { Below stops starts.now }
-    ensures { Does stops routes (started_all t.0 starts.now)
-        words.old marks.old words.new marks.new }
+fn start_all(workspace: &mut Workspace, starts: &[u32], t: Time)
+    requires { Below workspace.old.stops starts.now }
+    ensures { Becomes (started_all t.0 starts.now) workspace.old workspace.new }
 {
-    let mut i = 0;
-    while i < starts.len() {
-        allocator::start(words, marks, stops, routes, starts[i], t);
-        i += 1;
+    for &s in starts {
+        workspace.start(s, t);
     }
 }
 
@@ -136,109 +94,84 @@ pub struct Ask {
 }
 
 // The first half: open the round, and ride.
-fn ride_half(tables: &[u32], words: &mut [u32], marks: &mut [u64], round: Round, mode: Mode)
-    requires tabled { Tabled tables.now round.stops round.routes }
-    requires usable { Usable round.stops round.routes words.old marks.old }
+fn ride_half(tables: &[u32], workspace: &mut Workspace, round: Round, mode: Mode)
+    requires tabled { Tabled tables.now workspace.old.stops workspace.old.routes }
     requires ready { Ready round.direction mode round.walking (net_of tables.now) round.number round.target.0
-        (view round.stops round.routes words.old marks.old) }
-    ensures { Does round.stops round.routes
+        (state workspace.old) }
+    ensures { Becomes
         (λ x. rides_work round.direction (net_of tables.now) round.number round.target.0
         (opened_by mode round.direction (net_of tables.now) x))
-        words.old marks.old words.new marks.new }
+        workspace.old workspace.new }
 {
-    let stops = round.stops;
-    let routes = round.routes;
-    let d = round.direction;
-    explorer_choosing::open_round(tables, words, marks, stops, routes, mode, d);
-    explorer_rides::explore_routes(tables, words, marks, round);
+    explorer_choosing::open_round(tables, workspace, mode, round.direction);
+    explorer_rides::explore_routes(tables, workspace, round);
 }
 
 // The second half: hold what the rides left, and walk.
-fn foot_half(tables: &[u32], words: &mut [u32], marks: &mut [u64], round: Round)
-    requires tabled { Tabled tables.now round.stops round.routes }
-    requires usable { Usable round.stops round.routes words.old marks.old }
+fn foot_half(tables: &[u32], workspace: &mut Workspace, round: Round)
+    requires tabled { Tabled tables.now workspace.old.stops workspace.old.routes }
     requires number_bound { round.number < MOST_ROUNDS }
-    requires footing { Footing round.stops (holding (view round.stops round.routes words.old marks.old)) }
-    ensures { Does round.stops round.routes
+    requires footing { Footing workspace.old.stops (holding (state workspace.old)) }
+    ensures { Becomes
         (λ x. feet_work round.direction (net_of tables.now) round.number round.target.0 round.walking (holding x))
-        words.old marks.old words.new marks.new }
+        workspace.old workspace.new }
 {
-    let stops = round.stops;
-    let routes = round.routes;
-    allocator::hold(words, marks, stops, routes);
-    explorer_footpaths::explore_transfers(tables, words, marks, round);
+    workspace.hold();
+    explorer_footpaths::explore_transfers(tables, workspace, round);
 }
 
 // One round, both halves, and its end: the target after it.
 fn next_round(
     tables: &[u32],
-    words: &mut [u32],
-    marks: &mut [u64],
+    workspace: &mut Workspace,
     k: u32,
     a: Ask,
     goals: &[u32],
     aimed: Target,
 ) -> Target
-    requires tabled { Tabled tables.now a.stops a.routes }
-    requires usable { Usable a.stops a.routes words.old marks.old }
-    requires ready { Ready a.direction a.mode a.walking (net_of tables.now) k aimed.time.0
-        (view a.stops a.routes words.old marks.old) }
-    requires below { Below a.stops goals.now }
-    ensures does { Does a.stops a.routes
+    requires tabled { Tabled tables.now workspace.old.stops workspace.old.routes }
+    requires ready { Ready a.direction a.mode a.walking (net_of tables.now) k aimed.time.0 (state workspace.old) }
+    requires below { Below workspace.old.stops goals.now }
+    ensures does { Becomes
         (round_work a.direction a.mode a.walking (net_of tables.now) k aimed.time.0)
-        words.old marks.old words.new marks.new }
-    ensures value { result ≡ aim a.direction k (best_of a.stops a.routes words.new) goals.now aimed }
+        workspace.old workspace.new }
+    ensures value { result ≡ aim a.direction k (best workspace.new) goals.now aimed }
 {
-    let stops = a.stops;
-    let routes = a.routes;
-    let d = a.direction;
-    let mode = a.mode;
-    let walking = a.walking;
-    let seen = aimed.time;
     let round = Round {
-        stops: stops,
-        routes: routes,
         number: k,
-        direction: d,
-        target: seen,
-        walking: walking,
+        direction: a.direction,
+        target: aimed.time,
+        walking: a.walking,
     };
-    ride_half(tables, words, marks, round, mode);
-    foot_half(tables, words, marks, round);
-    target_after(words, stops, routes, d, k, goals, aimed)
+    ride_half(tables, workspace, round, a.mode);
+    foot_half(tables, workspace, round);
+    target_after(workspace, a.direction, k, goals, aimed)
 }
 
 // The rounds, fewer than 15 where nothing is marked.
 fn rounds(
     tables: &[u32],
-    words: &mut [u32],
-    marks: &mut [u64],
+    workspace: &mut Workspace,
     a: Ask,
     starts: &[u32],
     goals: &[u32],
 ) -> Target
-    requires { Begun tables.now a starts.now goals.now words.old marks.old }
-    ensures result_after { state_of (view a.stops a.routes words.new marks.new) result
+    requires { Begun tables.now a starts.now goals.now workspace.old }
+    ensures result_after { state_of (state workspace.new) result
         ≡ search_of (net_of tables.now) (task_between a starts.now goals.now) listed }
-    ensures usable { Usable a.stops a.routes words.new marks.new }
+    ensures same { SameSlices workspace.old workspace.new }
 {
     let mut aimed = Target {
         stop: 0,
         round: 0,
         time: Time(0),
     };
-    let mut k: u32 = 0;
-    while k < repository::limits::MOST_ROUNDS {
-        let stops = a.stops;
-        let routes = a.routes;
-        let any = allocator::any_marked(marks, stops, routes);
-        if any {
-            aimed = next_round(tables, words, marks, k, a, goals, aimed);
-            k += 1;
-        } else {
-            allocator::swap_labels(words, marks, stops, routes);
+    for k in 0..repository::limits::MOST_ROUNDS {
+        if !workspace.any_marked() {
+            workspace.swap_labels();
             return aimed;
         }
+        aimed = next_round(tables, workspace, k, a, goals, aimed);
     }
     aimed
 }
@@ -262,11 +195,7 @@ pub fn search(
         ≡ search_of (net_of tables.now) (task_between a starts.now goals.now) listed }
     ensures usable { Usable a.stops a.routes words.new marks.new }
 {
-    let stops = a.stops;
-    let routes = a.routes;
-    let d = a.direction;
-    let t = a.moment;
-    allocator::clear(words, marks, stops, routes, d);
-    start_all(words, marks, stops, routes, starts, t);
-    rounds(tables, words, marks, a, starts, goals)
+    let mut workspace = Workspace::new(words, marks, a.stops, a.routes, a.direction);
+    start_all(&mut workspace, starts, a.moment);
+    rounds(tables, &mut workspace, a, starts, goals)
 }

@@ -1,2 +1,2 @@
--- Laws on a part of a slice.
-pub mod Parts
+-- A law on tables that pass the check.
+pub mod Passed

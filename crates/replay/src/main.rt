@@ -5,10 +5,15 @@
 mod probe;
 mod rust;
 
-ghost use Rattle.std.specs.Prelude.{◌≤◌, IfOk};
-
 use lines::Line;
 use std::io;
+
+// The names of lines: the value of `net` is its last letter's.
+const NET: u64 = b't' as u64;
+
+const QUERY: u64 = b'q' as u64;
+
+const PROBE: u64 = b'p' as u64;
 
 // The line so far, and how many words the tables have.
 #[derive(Clone, Copy)]
@@ -17,100 +22,60 @@ struct At {
     count: usize,
 }
 
-// A query, in the form that the line's name asks for: the value of `q` and of `p` is their own.
-fn answer(rt: HostRuntime, tables: &[u32], line: &[u32], name: u64) -> io::Result<()> {
-    if name == 113 {
-        return rust::answer_line(rt, tables, line);
+// A query, in the form that the line's name asks for.
+fn answer(rt: HostRuntime, tables: &[u32], line: &[u32], name: Option<u64>) -> io::Result<()> {
+    match name {
+        Some(QUERY) => rust::answer_line(rt, tables, line),
+        Some(PROBE) => probe::answer_line(rt, tables, line),
+        _ => Ok(()),
     }
-    if name == 112 {
-        return probe::answer_line(rt, tables, line);
-    }
-    Ok(())
 }
 
-// What a line that has ended asks for. The value of `net` is its last letter's.
-fn end(rt: HostRuntime, tables: &[u32], line: &[u32], at: At) -> io::Result<At>
-    requires { at.line.value ≤ 4294967296 }
-    ensures { IfOk result (λ a. a.line.value ≤ 4294967296) }
-{
-    let l = at.line;
-    let count = l.count;
-    let known = at.count;
-    if !l.ended {
+// What a line that has ended asks for.
+fn end(rt: HostRuntime, tables: &[u32], words: &[u32], at: At) -> io::Result<At> {
+    let line = at.line;
+    if !line.ended {
         return Ok(at);
     }
-    if l.name == 116 {
+    if line.name == Some(NET) {
         return Ok(At {
-            line: l,
-            count: count,
+            line,
+            count: line.count,
         });
     }
-    if known <= tables.len() {
-        if count <= line.len() {
-            answer(rt, &tables[..known], &line[..count], l.name)?;
-        }
+    if let (Some(tables), Some(words)) = (tables.get(..at.count), words.get(..line.count)) {
+        answer(rt, tables, words, line.name)?;
     }
     Ok(at)
 }
 
-// Goes on with one more byte: the words of tables go to the tables, all others to the line.
-fn feed(rt: HostRuntime, tables: &mut [u32], line: &mut [u32], at: At, b: u8) -> io::Result<At>
-    requires { at.line.value ≤ 4294967296 }
-    ensures { IfOk result (λ a. a.line.value ≤ 4294967296) }
-{
-    let l = at.line;
-    let count = at.count;
-    if l.name == 116 {
-        let next = lines::step(tables, l, b);
-        return end(
-            rt,
-            tables,
-            line,
-            At {
-                line: next,
-                count: count,
-            },
-        );
-    }
-    let next = lines::step(line, l, b);
-    end(
-        rt,
-        tables,
-        line,
-        At {
-            line: next,
-            count: count,
-        },
-    )
-}
-
-// Goes on with a block of bytes.
+// Goes on with a block of bytes: the words of tables go to the tables, all others to the line.
 fn feed_all(
     rt: HostRuntime,
     tables: &mut [u32],
-    line: &mut [u32],
+    words: &mut [u32],
     at: At,
     block: &[u8],
-) -> io::Result<At>
-    requires { at.line.value ≤ 4294967296 }
-    ensures { IfOk result (λ a. a.line.value ≤ 4294967296) }
-{
-    let mut now = at;
-    let mut i = 0;
-    while i < block.len() {
-        now = feed(rt, tables, line, now, block[i])?;
-        i += 1;
+) -> io::Result<At> {
+    let mut at = at;
+    for b in block {
+        at.line = if at.line.name == Some(NET) {
+            at.line.step(tables, *b)
+        } else {
+            at.line.step(words, *b)
+        };
+        at = end(rt, tables, words, at)?;
     }
-    Ok(now)
+    Ok(at)
 }
 
 // A proved loop has to end, and nothing says that the input does: no run uses up so many turns.
 fn main(rt: HostRuntime) -> io::Result<()> {
     let mut tables = [0u32; 4096];
-    let mut line = [0u32; 64];
+    let mut words = [0u32; 64];
     let mut block = [0u8; 4096];
     let mut at = At {
-        line: lines::new(),
+        line: Line::new(),
         count: 0,
     };
     for _ in 0..u64::MAX {
@@ -118,7 +83,7 @@ fn main(rt: HostRuntime) -> io::Result<()> {
         if got == 0 {
             return Ok(());
         }
-        at = feed_all(rt, &mut tables, &mut line, at, &block[..got])?;
+        at = feed_all(rt, &mut tables, &mut words, at, &block[..got])?;
     }
     Ok(())
 }

@@ -2,124 +2,69 @@
 // 2 unsaid; mode `s` or `r`; the bytes of the journey buffer, at most 4,096; fault 0 for a workspace of the right lengths, 1, 2, 3 for
 // words, marks, places that are one short. Before each query every slice is filled with sevens. Printed: number, time, stop, round, length;
 // then words, marks, places and journey, as `untouched` or by a digest of their contents.
-ghost use Rattle.std.specs.Prelude.{◌≤◌};
-
-use asking::Asked;
-use model::{Answer, Query};
-use raptor::Needed;
+use model::{Answer, Error, Query};
+use raptor::Lengths;
 use std::io;
 
-fn print_fields(
-    rt: HostRuntime,
-    number: u32,
-    time: u32,
-    stop: u32,
-    round: u32,
-    length: usize,
-) -> io::Result<()> {
-    print::number(&rt, number as u64)?;
-    print::field(&rt, time)?;
-    print::field(&rt, stop)?;
-    print::field(&rt, round)?;
-    print::text(&rt, b" ")?;
-    print::number(&rt, length as u64)
-}
-
-fn print_answer(rt: HostRuntime, a: Answer) -> io::Result<()> {
-    match a {
-        Answer::Found {
-            time,
-            stop,
-            round,
-            length,
-        } => print_fields(rt, 0, time.0, stop, round, length),
-        Answer::Refused(number) => print_fields(rt, number, 0, 0, 0, 0),
-        Answer::NoRouteFound => print_fields(rt, 10, 0, 0, 0, 0),
-        Answer::FailedToBuildRoute => print_fields(rt, 11, 0, 0, 0, 0),
-        Answer::TooLong(length) => print_fields(rt, 12, 0, 0, 0, length),
+fn print_answer(rt: HostRuntime, answer: Answer) -> io::Result<()> {
+    match answer {
+        Ok(found) => print!(rt;
+            "0 {} {} {} {}",
+            found.time.0, found.stop, found.round, found.length
+        ),
+        Err(Error::Refused(refusal)) => print!(rt; "{} 0 0 0 0", u32::from(refusal)),
+        Err(Error::NoRouteFound) => print!(rt; "10 0 0 0 0"),
+        Err(Error::FailedToBuildRoute) => print!(rt; "11 0 0 0 0"),
+        Err(Error::TooLong(length)) => print!(rt; "12 0 0 0 {length}"),
     }
 }
 
 // A digest with one more word.
-fn mixed(sum: u64, word: u64) -> u64
-    requires { sum ≤ 1000002 }
-    ensures { result ≤ 1000002 }
-{
-    (sum * 31 + word % 1000003) % 1000003
+fn mixed(sum: u32, word: u64) -> u32 {
+    ((u64::from(sum) * 31 + word % 1000003) % 1000003) as u32
 }
 
-fn wide(x: u32) -> u64 {
-    x as u64
-}
-
-fn whole(x: u8) -> u64 {
-    x as u64
-}
-
-fn digest_words(s: &[u32]) -> u64 {
+// A digest of what a slice holds.
+fn digest<T: Copy + Into<u64>>(s: &[T]) -> u32 {
     let mut sum = 0;
-    let mut i = 0;
-    while i < s.len() {
-        sum = mixed(sum, wide(s[i]));
-        i += 1;
+    for word in s {
+        sum = mixed(sum, (*word).into());
     }
     sum
-}
-
-fn digest_marks(s: &[u64]) -> u64 {
-    let mut sum = 0;
-    let mut i = 0;
-    while i < s.len() {
-        sum = mixed(sum, s[i]);
-        i += 1;
-    }
-    sum
-}
-
-fn digest_bytes(s: &[u8]) -> u64 {
-    let mut sum = 0;
-    let mut i = 0;
-    while i < s.len() {
-        sum = mixed(sum, whole(s[i]));
-        i += 1;
-    }
-    sum
-}
-
-// What is left in a slice.
-fn print_left(rt: HostRuntime, name: &[u8], before: u64, after: u64) -> io::Result<()> {
-    print::text(&rt, name)?;
-    if before == after {
-        return print::text(&rt, b" untouched");
-    }
-    print::text(&rt, b" ")?;
-    print::number(&rt, after)
 }
 
 // The digests of the four.
 #[derive(Clone, Copy)]
 struct Digests {
-    words: u64,
-    marks: u64,
-    places: u64,
-    journey: u64,
+    words: u32,
+    marks: u32,
+    places: u32,
+    journey: u32,
 }
 
 fn digest_all(words: &[u32], marks: &[u64], places: &[u32], journey: &[u8]) -> Digests {
     Digests {
-        words: digest_words(words),
-        marks: digest_marks(marks),
-        places: digest_words(places),
-        journey: digest_bytes(journey),
+        words: digest(words),
+        marks: digest(marks),
+        places: digest(places),
+        journey: digest(journey),
     }
 }
 
+// What is left in a slice.
+fn print_left(rt: HostRuntime, name: &str, before: u32, after: u32) -> io::Result<()> {
+    if before == after {
+        return print!(rt; ", {name} untouched");
+    }
+    print!(rt; ", {name} {after}")
+}
+
 fn print_all(rt: HostRuntime, before: Digests, after: Digests) -> io::Result<()> {
-    print_left(rt, b", words", before.words, after.words)?;
-    print_left(rt, b", marks", before.marks, after.marks)?;
-    print_left(rt, b", places", before.places, after.places)?;
-    print_left(rt, b", journey", before.journey, after.journey)?;
-    print::text(&rt, b"\n")
+    print_left(rt, "words", before.words, after.words)?;
+    print_left(rt, "marks", before.marks, after.marks)?;
+    print_left(rt, "places", before.places, after.places)?;
+    print_left(rt, "journey", before.journey, after.journey)?;
+    println!(rt)
 }
 
 // Lends the slices to `solve`, and prints what comes back.
@@ -133,95 +78,27 @@ fn ask(
     q: Query,
 ) -> io::Result<()> {
     let before = digest_all(words, marks, places, journey);
-    let a = raptor::solve(tables, words, marks, places, journey, q);
+    let answer = raptor::solve(tables, words, marks, places, journey, q);
     let after = digest_all(words, marks, places, journey);
-    print_answer(rt, a)?;
+    print_answer(rt, answer)?;
     print_all(rt, before, after)
 }
 
-// What the length of a slice is where it is to be one short.
-fn short(length: usize, fault: bool) -> usize {
-    if fault {
-        if 0 < length {
-            return length - 1;
-        }
+// The lengths of the workspace that is lent: what the tables ask for, or one word each for tables that are refused; the fault makes one of
+// them short by one.
+fn lent_to(tables: &[u32], fault: u32) -> Lengths {
+    let mut lent = raptor::room(tables).unwrap_or(Lengths {
+        words: 1,
+        marks: 1,
+        places: 1,
+    });
+    match fault {
+        1 => lent.words = lent.words.saturating_sub(1),
+        2 => lent.marks = lent.marks.saturating_sub(1),
+        3 => lent.places = lent.places.saturating_sub(1),
+        _ => {}
     }
-    length
-}
-
-// The lengths that are lent: what the tables ask for, or one word each for tables that are refused; the fault makes one of them short.
-#[derive(Clone, Copy)]
-struct Lent {
-    words: usize,
-    marks: usize,
-    places: usize,
-    journey: usize,
-}
-
-fn shortened(words: usize, marks: usize, places: usize, journey: usize, fault: u32) -> Lent {
-    let w = short(words, fault == 1);
-    let y = short(marks, fault == 2);
-    let p = short(places, fault == 3);
-    Lent {
-        words: w,
-        marks: y,
-        places: p,
-        journey: journey,
-    }
-}
-
-fn lent_to(tables: &[u32], journey: usize, fault: u32) -> Lent {
-    let needed = raptor::room(tables);
-    match needed {
-        Needed::Lengths {
-            words: w,
-            marks: y,
-            places: p,
-        } => return shortened(w, y, p, journey, fault),
-        Needed::Refused(_) => return shortened(1, 1, 1, journey, fault),
-    }
-}
-
-fn too_large(rt: HostRuntime) -> io::Result<()> {
-    print::text(&rt, b"too large\n")
-}
-
-// Cuts the slices to the lengths that are lent.
-fn cut(
-    rt: HostRuntime,
-    tables: &[u32],
-    words: &mut [u32],
-    marks: &mut [u64],
-    places: &mut [u32],
-    journey: &mut [u8],
-    q: Query,
-    to: Lent,
-) -> io::Result<()> {
-    let w = to.words;
-    let y = to.marks;
-    let p = to.places;
-    let z = to.journey;
-    if words.len() < w {
-        return too_large(rt);
-    }
-    if marks.len() < y {
-        return too_large(rt);
-    }
-    if places.len() < p {
-        return too_large(rt);
-    }
-    if journey.len() < z {
-        return too_large(rt);
-    }
-    ask(
-        rt,
-        tables,
-        &mut words[..w],
-        &mut marks[..y],
-        &mut places[..p],
-        &mut journey[..z],
-        q,
-    )
+    lent
 }
 
 fn answer(rt: HostRuntime, tables: &[u32], q: Query, buffer: usize, fault: u32) -> io::Result<()> {
@@ -229,32 +106,24 @@ fn answer(rt: HostRuntime, tables: &[u32], q: Query, buffer: usize, fault: u32) 
     let mut marks = [7u64; 32];
     let mut places = [7u32; 128];
     let mut journey = [7u8; 4096];
-    let to = lent_to(tables, buffer, fault);
-    cut(
-        rt,
-        tables,
-        &mut words,
-        &mut marks,
-        &mut places,
-        &mut journey,
-        q,
-        to,
-    )
-}
-
-fn bytes_of(x: u32) -> usize {
-    x as usize
+    let to = lent_to(tables, fault);
+    let (Some(words), Some(marks), Some(places), Some(journey)) = (
+        words.get_mut(..to.words),
+        marks.get_mut(..to.marks),
+        places.get_mut(..to.places),
+        journey.get_mut(..buffer),
+    ) else {
+        return println!(rt; "too large");
+    };
+    ask(rt, tables, words, marks, places, journey, q)
 }
 
 pub fn answer_line(rt: HostRuntime, tables: &[u32], line: &[u32]) -> io::Result<()> {
-    if line.len() < 10 {
-        return print::text(&rt, b"no query\n");
-    }
-    let buffer = bytes_of(line[8]);
-    let fault = line[9];
-    let asked = asking::query(line, line[7]);
-    match asked {
-        Asked::Query(q) => answer(rt, tables, q, buffer, fault),
-        Asked::Nothing => print::text(&rt, b"no query\n"),
+    let [_, _, _, _, _, _, _, mode, buffer, fault, ..] = *line else {
+        return println!(rt; "no query");
+    };
+    match asking::query(line, mode) {
+        Some(q) => answer(rt, tables, q, buffer as usize, fault),
+        None => println!(rt; "no query"),
     }
 }

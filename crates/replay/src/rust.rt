@@ -1,51 +1,31 @@
 // A query `q fromkind from tokind to d|a moment walks`, and `r` behind it for the rescan mode, answered in the form in which the Rust's
 // answers are kept: the number, and where it is 0 time, stop, round, how many legs, and the legs.
-use asking::{Asked, Told};
-use journey::Reading;
-use model::{Answer, Query};
+use model::{Answer, Error, Found, Query};
 use std::io;
 
-// The journey of so many bytes: how many legs, and each leg.
-fn print_journey(rt: HostRuntime, journey: &[u8], length: usize) -> io::Result<()> {
-    if journey.len() < length {
-        return Ok(());
-    }
-    let bytes = &journey[..length];
-    let reading = journey::read(bytes);
-    let Reading::Legs(n) = reading else {
+// What was found, and its journey: how many legs, and each leg.
+fn print_found(rt: HostRuntime, journey: &[u8], found: Found) -> io::Result<()> {
+    print!(rt; "0 {} {} {}", found.time.0, found.stop, found.round)?;
+    let Some(bytes) = journey.get(..found.length) else {
         return Ok(());
     };
-    print::text(&rt, b" ")?;
-    print::number(&rt, n as u64)?;
+    let Ok(legs) = journey::read(bytes) else {
+        return Ok(());
+    };
+    print!(rt; " {legs}")?;
     print::legs(&rt, bytes, b" | ", b"", b"")
 }
 
-fn print_answer(rt: HostRuntime, journey: &[u8], told: Told) -> io::Result<()> {
-    let Told::Answer(a) = told else {
-        return print::text(&rt, b"too large\n");
-    };
-    match a {
-        Answer::Found {
-            time,
-            stop,
-            round,
-            length,
-        } => {
-            print::text(&rt, b"0")?;
-            print::field(&rt, time.0)?;
-            print::field(&rt, stop)?;
-            print::field(&rt, round)?;
-            print_journey(rt, journey, length)?;
-        }
-        Answer::Refused(number) => print::number(&rt, number as u64)?,
-        Answer::NoRouteFound => print::text(&rt, b"10")?,
-        Answer::FailedToBuildRoute => print::text(&rt, b"11")?,
-        Answer::TooLong(length) => {
-            print::text(&rt, b"12 ")?;
-            print::number(&rt, length as u64)?;
-        }
+fn print_answer(rt: HostRuntime, journey: &[u8], told: Option<Answer>) -> io::Result<()> {
+    match told {
+        Some(Ok(found)) => print_found(rt, journey, found)?,
+        Some(Err(Error::Refused(refusal))) => print!(rt; "{}", u32::from(refusal))?,
+        Some(Err(Error::NoRouteFound)) => print!(rt; "10")?,
+        Some(Err(Error::FailedToBuildRoute)) => print!(rt; "11")?,
+        Some(Err(Error::TooLong(length))) => print!(rt; "12 {length}")?,
+        None => print!(rt; "too large")?,
     }
-    print::text(&rt, b"\n")
+    println!(rt)
 }
 
 // A query on the tables, asked and answered.
@@ -60,16 +40,9 @@ fn answer(rt: HostRuntime, tables: &[u32], q: Query) -> io::Result<()> {
 
 // The query that the words of a line are, asked and answered.
 pub fn answer_line(rt: HostRuntime, tables: &[u32], line: &[u32]) -> io::Result<()> {
-    if line.len() < 7 {
-        return print::text(&rt, b"no query\n");
-    }
-    let mut mode = 115;
-    if 7 < line.len() {
-        mode = line[7];
-    }
-    let asked = asking::query(line, mode);
-    match asked {
-        Asked::Query(q) => answer(rt, tables, q),
-        Asked::Nothing => print::text(&rt, b"no query\n"),
+    let mode = line.get(7).copied().unwrap_or(u32::from(b's'));
+    match asking::query(line, mode) {
+        Some(q) => answer(rt, tables, q),
+        None => println!(rt; "no query"),
     }
 }

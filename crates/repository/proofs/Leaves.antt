@@ -1,5 +1,5 @@
 -- The leaves of the readers: sizes, entries and parts, in the shape in which their code asks.
-use Prim.Native.Nat.{ℕ, ◌+◌, ◌-◌, ◌/◌, ◌≤◌, ◌<◌}
+use Prim.Native.Nat.{ℕ, ◌+◌, ◌-◌, ◌≤◌, ◌<◌}
 use mathlib.Core.Path.{◌≡◌}
 use mathlib.Core.List.{List}
 use native.Mathlib.Omega.{arith}
@@ -7,14 +7,11 @@ use native.Mathlib.Nat.{add_assoc}
 use lib.ListN.{length, take, drop}
 use Rattle.base.specs.Tab.{tab}
 use Rattle.base.proofs.Tab.{tab_part}
-use Rattle.repository.specs.Sections.{start, size, sec, routes, rows, ROUTE_STOP_STARTS, ROUTE_STOPS, SECTIONS, stop_on}
+use Rattle.repository.specs.Sections.{start, size, sec, routes, ROUTE_STOP_STARTS, ROUTE_STOPS}
 use Rattle.repository.specs.NetOf.{count}
 use Rattle.repository.specs.Laid.{Laid}
 use Rattle.repository.specs.Entries.{Entry, Part}
 use Rattle.repository.proofs.Rooms.{room, part_room, starts_top}
-
-pub head_rise : {w : List ℕ} (k : ℕ) {a b : ℕ} → Laid w → k < SECTIONS → b ≡ start w (k + 1) → a ≡ start w k → a ≤ b
-head_rise k h g e f = omega (arith, h.rise k g)
 
 module _ {w : List ℕ} {k i : ℕ} (h : Laid w) (t : Entry w k i) where
   pub entry_room : start w k + i < length w
@@ -22,9 +19,6 @@ module _ {w : List ℕ} {k i : ℕ} (h : Laid w) (t : Entry w k i) where
 
   pub next_room : start w k + (i + 1) < length w
   next_room = room h k t.section t.next
-
-pub entry_rise : {w : List ℕ} {k i a b : ℕ} → Entry w k i → a ≡ sec w k i → b ≡ sec w k (i + 1) → a ≤ b
-entry_rise t e f = omega (arith, t.rise)
 
 module _ {w : List ℕ} {k a b base : ℕ} (h : Laid w) (p : Part w k a b) (e : base ≡ start w k) where
   pub part_end : base + b ≤ length w
@@ -36,14 +30,8 @@ module _ {w : List ℕ} {k a b base : ℕ} (h : Laid w) (p : Part w k a b) (e : 
       let d : base + b - (base + a) ≡ b - a = omega (arith, p.rise) in
       rw d (tab_part w (sec w k) (b - a) (base + a) a (omega (arith, part_end, p.rise)) (λ j l. rw (e, add_assoc)))
 
-pub rows_is : (w : List ℕ) (k wide : ℕ) {z : ℕ} → z ≡ size w k → z / wide ≡ rows w k wide
-rows_is w k wide e = rw e
-
 -- the stop at a position: its word, and what it is
 pub stop_word_in : {w : List ℕ} {r p a : ℕ} → Laid w → r < routes w → p < count w ROUTE_STOP_STARTS r → a ≡ sec w ROUTE_STOP_STARTS r
     → a + p < size w ROUTE_STOPS
 unfolding count
 stop_word_in {r = r} l hr hp e = omega (arith, starts_top l.route_stop_starts (r + 1) (omega arith))
-
-pub stop_on_is : (w : List ℕ) (r p : ℕ) {a x : ℕ} → a ≡ sec w ROUTE_STOP_STARTS r → x ≡ sec w ROUTE_STOPS (a + p) → x ≡ stop_on w r p
-stop_on_is w r p e f = rw e at f

@@ -11,10 +11,10 @@ use lib.Ieee.{Float, of_bits, binary32}
 use Rattle.base.specs.Tab.{tab}
 use Rattle.shared.specs.Walk.{Stretch}
 use Rattle.model.specs.Moments.{MAX}
-use Rattle.repository.specs.declared.places.Station.TheVariants.{At, Nothing}
+use Rattle.std.specs.Prelude.{None, Some}
 use Rattle.repository.specs.Sections.{start, size, sec, stops, STOP_LIST, STATIONS, SERVED, ROUTE_STOP_STARTS}
 use Rattle.repository.specs.Sections.{ROUTE_STOPS, ROUTE_TRIP_STARTS, ROUTE_TRIPS, TIMES, STANDING, SECTIONS, TIME_WORDS, STANDING_WORDS}
-use Rattle.repository.specs.Sections.{transfer_bits, transfer_metres, walk_bits, walk_metres}
+use Rattle.repository.specs.Sections.{transfer_bits, walk_bits}
 use Rattle.repository.specs.NetOf.{count, list_of, station_of, net_of}
 use Rattle.repository.specs.Laid.{Laid}
 use Rattle.repository.specs.Accepted.{Accepted}
@@ -22,7 +22,6 @@ use Rattle.repository.specs.Readable.{Searchable}
 use Rattle.repository.specs.Entries.{Entry, Part, EntryWords}
 use Rattle.repository.specs.Rows.{Listing, calls, transfers, walks, starts_of, wide_of, row_count, past_row}
 use Rattle.repository.specs.Rows.{trip_count, time_count}
-use Rattle.repository.specs.Station.{station_is}
 use Rattle.repository.proofs.Tabs.{tab_shift}
 use Rattle.repository.proofs.Rooms.{room, row_room, trip_of_route, past_in}
 
@@ -49,13 +48,6 @@ module _ (w : List ℕ) (r p : ℕ) {a x : ℕ} where
 pub served_is : (w : List ℕ) (s : ℕ) {x : ℕ} → x ≡ sec w SERVED s → eqb x 1 ≡ (net_of w).served s
 unfolding net_of
 served_is w s e = rw e
-
-module _ (w : List ℕ) (j : ℕ) {x : ℕ} {f : Float} where
-  pub transfer_metres_is : x ≡ transfer_bits w j → f ≡ of_bits binary32 x → f ≡ transfer_metres w j
-  transfer_metres_is e g = rw e at g
-
-  pub walk_metres_is : x ≡ walk_bits w j → f ≡ of_bits binary32 x → f ≡ walk_metres w j
-  walk_metres_is e g = rw e at g
 
 -- the words of an entry, from the first to the one before the next entry's
 pub listing_is : (w : List ℕ) (k i : ℕ) {q : List ℕ} {a b : ℕ} → a ≡ sec w k i → b ≡ sec w k (i + 1)
@@ -126,12 +118,12 @@ unfolding net_of
 stop_word k g e h i = room h k g (omega arith)
 
 module _ (w : List ℕ) (s : ℕ) {p : ℕ} (e : p ≡ sec w STATIONS s) where
-  pub station_none : p ≡ MAX → Nothing ≡ station_is ((net_of w).station s)
-  unfolding net_of station_of station_is
+  pub station_none : p ≡ MAX → None ≡ (net_of w).station s
+  unfolding net_of station_of
   station_none f = rw (← e, eq-eqb _ _ f)
 
-  pub station_some : (p ≡ MAX → ⊥) → At p ≡ station_is ((net_of w).station s)
-  unfolding net_of station_of station_is
+  pub station_some : (p ≡ MAX → ⊥) → Some p ≡ (net_of w).station s
+  unfolding net_of station_of
   station_some f = rw (← e, ne_eqb _ _ f)
 
 module _ {w : List ℕ} {s : ℕ} (h : Accepted w) (i : s < (net_of w).stops) where

@@ -7,5 +7,4 @@ pub mod Checked
 pub mod Accepted
 pub mod Rows
 pub mod Entries
-pub mod Station
 pub mod Readable

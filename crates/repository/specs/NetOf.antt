@@ -1,6 +1,6 @@
 -- The network that the words hold.
 use Rattle.std.specs.Prelude.{ℕ, ◌+◌, ◌-◌, cond, List, eqb}
-use Rattle.std.proofs.Math.Option.{Option, none, some}
+use Rattle.std.specs.Prelude.{Option, None, Some}
 use Rattle.base.specs.Tab.{tab}
 use Rattle.model.specs.Moments.{MAX}
 use Rattle.model.specs.Spans.{transfer_span, walk_span}
@@ -27,7 +27,7 @@ walk_row w j = record { to = walk_to w j; span = walk_span (walk_metres w j) }
 
 -- "absent parent is MAX"
 unfoldable pub station_of : ℕ → Option ℕ
-station_of p = cond (eqb p MAX) none (some p)
+station_of p = cond (eqb p MAX) None (Some p)
 
 unfoldable pub net_of : List ℕ → Net
 net_of w = record {

@@ -3,16 +3,8 @@ ghost use Rattle.std.specs.Prelude.{◌≡◌, [], ◌∷◌, ◌<◌};
 ghost use Rattle.repository.specs.Laid.{Laid};
 ghost use Rattle.repository.specs.Accepted.{Accepted};
 ghost use Rattle.repository.specs.NetOf.{net_of};
-ghost use Rattle.repository.specs.Station.{station_is};
 
 use crate::{sections, words};
-
-// A stop's parent station, or none.
-#[derive(Clone, Copy)]
-pub enum Station {
-    At(u32),
-    Nothing,
-}
 
 pub fn stop_count(tables: &[u32]) -> u32
     requires { Laid tables.now }
@@ -28,17 +20,14 @@ pub fn area_count(tables: &[u32]) -> u32
     words::size_of(tables, sections::AREA_STARTS) - 1
 }
 
-// The parent station of a stop.
-pub fn station_of(tables: &[u32], s: u32) -> Station
+// The parent station of a stop, or none.
+pub fn station_of(tables: &[u32], s: u32) -> Option<u32>
     requires laid { Laid tables.now }
     requires s_bound { s < (net_of tables.now).stops }
-    ensures { result ≡ station_is ((net_of tables.now).station s) }
+    ensures { result ≡ (net_of tables.now).station s }
 {
     let p = words::word(tables, sections::STATIONS, s as usize);
-    if p == super::MAX {
-        return Station::Nothing;
-    }
-    Station::At(p)
+    if p == super::MAX { None } else { Some(p) }
 }
 
 // The stops that name a stop as their station, as a part of the children list.

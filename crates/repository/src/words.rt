@@ -7,6 +7,7 @@ ghost use Rattle.repository.specs.Laid.{Laid};
 ghost use Rattle.repository.specs.Entries.{Entry, Part, EntryWords};
 
 use crate::sections;
+use std::ops::Range;
 
 // Where section k begins.
 pub fn head(tables: &[u32], k: usize) -> u32
@@ -32,8 +33,7 @@ pub fn size_of(tables: &[u32], k: usize) -> u32
     requires k_bound { k < SECTIONS }
     ensures { result ≡ size tables.now k }
 {
-    let b = head(tables, k + 1);
-    b - head(tables, k)
+    head(tables, k + 1) - head(tables, k)
 }
 
 // How many entries the starts section k has: its last word only ends the list.
@@ -53,8 +53,7 @@ pub fn rows_of(tables: &[u32], k: usize, wide: usize) -> usize
     requires wide_nonzero { 0 < wide }
     ensures { result ≡ rows tables.now k wide }
 {
-    let n = size_of(tables, k) as usize;
-    n / wide
+    size_of(tables, k) as usize / wide
 }
 
 // Word i of section k of laid tables.
@@ -85,14 +84,23 @@ pub fn row_to(tables: &[u32], k: usize, i: u32) -> u32
     word(tables, k, i as usize + 1)
 }
 
+// Its rows.
+pub fn rows_under(tables: &[u32], k: usize, i: u32) -> Range<u32>
+    requires laid { Laid tables.now }
+    requires entry { Entry tables.now k i }
+    ensures start { result.start ≡ sec tables.now k i }
+    ensures end { result.end ≡ sec tables.now k (i + 1) }
+{
+    row_from(tables, k, i)..row_to(tables, k, i)
+}
+
 // How many rows it has.
 pub fn row_count(tables: &[u32], k: usize, i: u32) -> u32
     requires laid { Laid tables.now }
     requires entry { Entry tables.now k i }
     ensures { result ≡ count tables.now k i }
 {
-    let b = row_to(tables, k, i);
-    b - row_from(tables, k, i)
+    row_to(tables, k, i) - row_from(tables, k, i)
 }
 
 // Words a, .., b - 1 of section k.
@@ -102,9 +110,7 @@ pub fn part(tables: &[u32], k: usize, a: u32, b: u32) -> &[u32]
     ensures { result.now ≡ tab (sec tables.now k) (b - a) a }
 {
     let base = head(tables, k) as usize;
-    let from = base + a as usize;
-    let to = base + b as usize;
-    &tables[from..to]
+    &tables[base + a as usize..base + b as usize]
 }
 
 // The words of section k + 1 that stand under entry i of the starts section k.
@@ -113,9 +119,8 @@ pub fn listing(tables: &[u32], k: usize, i: u32) -> &[u32]
     requires entry_words { EntryWords tables.now k i }
     ensures { result.now ≡ list_of tables.now k (sec tables.now (k + 1)) i }
 {
-    let a = row_from(tables, k, i);
-    let b = row_to(tables, k, i);
-    part(tables, k + 1, a, b)
+    let rows = rows_under(tables, k, i);
+    part(tables, k + 1, rows.start, rows.end)
 }
 
 // The stop at position p of route r.

@@ -1,252 +1,137 @@
 // An answer in words: the journey, leg by leg, or the number of a refusal and what it means. An error is that of the write which failed.
 #![tactic(auto)]
 
-mod moment; // moment.rt: a moment as a clock shows it
-
-ghost use Rattle.std.specs.Prelude.{◌≤◌};
-
-use asking::Told;
-use journey::LegRead;
-use model::{Answer, Leg, LegType, Query, TimeConstraint};
+use arguments::moment::Clock;
+use model::{Answer, Error, Found, Leg, LegType, TimeConstraint};
+use network::Ready;
+use print::WholeLegs;
 use questions::Question;
 use shared::Time;
-use std::io;
+use std::{fmt, io};
 
 // A stop and when one is there.
-fn print_stop(rt: &impl Print, stop: u32, at: Time, midnight: u32) -> io::Result<()> {
-    print::text(rt, b"stop ")?;
-    print::number(rt, stop as u64)?;
-    print::text(rt, b" at ")?;
-    moment::print_moment(rt, at.0, midnight)
+#[derive(Clone, Copy)]
+struct Stay {
+    stop: u32,
+    clock: Clock,
 }
 
-// Between which stops a leg goes, and when.
-fn print_ends(rt: &impl Print, g: Leg, midnight: u32) -> io::Result<()> {
-    print::text(rt, b" from ")?;
-    print_stop(rt, g.from, g.departure, midnight)?;
-    print::text(rt, b" to ")?;
-    print_stop(rt, g.to, g.arrival, midnight)?;
-    print::text(rt, b"\n")
+impl fmt::Display for Stay {
+    fn fmt<W: fmt::Write>(&self, f: &mut fmt::Formatter<W>) -> fmt::Result {
+        let Stay { stop, clock } = *self;
+        write!(f, "stop {stop} at {clock}")
+    }
+}
+
+fn stay_at(stop: u32, at: Time, midnight: u32) -> Stay {
+    Stay {
+        stop,
+        clock: arguments::moment::clock_of(at.0, midnight),
+    }
 }
 
 fn print_leg(rt: &impl Print, g: Leg, midnight: u32) -> io::Result<()> {
-    let kind = g.kind;
-    match kind {
-        LegType::Transit(trip) => {
-            print::text(rt, b"ride trip ")?;
-            print::number(rt, trip as u64)?;
-        }
-        LegType::Transfer => print::text(rt, b"transfer")?,
-        LegType::Walk => print::text(rt, b"walk")?,
+    match g.kind {
+        LegType::Transit(trip) => print!(rt; "ride trip {trip}")?,
+        LegType::Transfer => print!(rt; "transfer")?,
+        LegType::Walk => print!(rt; "walk")?,
     }
-    print_ends(rt, g, midnight)
-}
-
-// 1 for a ride, 0 for a footpath.
-fn rides_of(g: Leg) -> usize
-    ensures { result ≤ 1 }
-{
-    let kind = g.kind;
-    match kind {
-        LegType::Transit(_) => 1,
-        LegType::Transfer => 0,
-        LegType::Walk => 0,
-    }
-}
-
-fn print_legs(rt: &impl Print, bytes: &[u8], midnight: u32) -> io::Result<()> {
-    let mut at = 0;
-    while at < bytes.len() {
-        let next = journey::read_leg(bytes, at);
-        let LegRead::Whole(g) = next else {
-            return Ok(());
-        };
-        print_leg(rt, g, midnight)?;
-        at += print::size(g);
-    }
-    Ok(())
+    let from = stay_at(g.from, g.departure, midnight);
+    let to = stay_at(g.to, g.arrival, midnight);
+    println!(rt; " from {from} to {to}")
 }
 
 // How many rides the legs are.
-fn count_rides(bytes: &[u8]) -> usize {
-    let mut rides = 0;
-    let mut at = 0;
-    while at < bytes.len() {
-        let next = journey::read_leg(bytes, at);
-        let LegRead::Whole(g) = next else {
-            return rides;
-        };
-        rides += rides_of(g);
-        at += print::size(g);
-    }
-    rides
-}
-
-// The last leg, `first` where there is no other.
-fn last_leg(bytes: &[u8], first: Leg) -> Leg {
-    let mut last = first;
-    let mut at = 0;
-    while at < bytes.len() {
-        let next = journey::read_leg(bytes, at);
-        let LegRead::Whole(g) = next else {
-            return last;
-        };
-        last = g;
-        at += print::size(g);
-    }
-    last
-}
-
-fn print_rides(rt: &impl Print, rides: usize) -> io::Result<()> {
-    print::number(rt, rides as u64)?;
-    if rides == 1 {
-        return print::text(rt, b" ride");
-    }
-    print::text(rt, b" rides")
+fn count_rides(legs: WholeLegs<'_>) -> usize {
+    legs.filter(|g| matches!(g.kind, LegType::Transit(_)))
+        .count()
 }
 
 // A journey's two ends, then which stops were meant, then each leg.
 fn print_journey(
     rt: &impl Print,
-    tables: &[u32],
+    ready: Ready<'_>,
     bytes: &[u8],
     round: u32,
-    q: Query,
-    midnight: u32,
+    asked: Question,
 ) -> io::Result<()> {
-    let next = journey::read_leg(bytes, 0);
-    let LegRead::Whole(first) = next else {
+    let legs = WholeLegs { rest: bytes };
+    let mut others = legs;
+    let Some(first) = others.next() else {
         return Ok(());
     };
-    let last = last_leg(bytes, first);
-    print::text(rt, b"Leave ")?;
-    print_stop(rt, first.from, first.departure, midnight)?;
-    print::text(rt, b", arrive at ")?;
-    print_stop(rt, last.to, last.arrival, midnight)?;
-    print::text(rt, b": ")?;
-    print_rides(rt, count_rides(bytes))?;
-    print::text(rt, b", round ")?;
-    print::number(rt, round as u64)?;
-    print::text(rt, b".\n")?;
-    refusing::meant::print_meant(rt, tables, q)?;
-    print_legs(rt, bytes, midnight)
+    let last = others.last().unwrap_or(first);
+    let from = stay_at(first.from, first.departure, asked.midnight);
+    let to = stay_at(last.to, last.arrival, asked.midnight);
+    let rides = count_rides(legs);
+    let plural = if rides == 1 { "" } else { "s" };
+    println!(rt; "Leave {from}, arrive at {to}: {rides} ride{plural}, round {round}.")?;
+    refusing::meant::print_meant(rt, ready.tables, asked.query)?;
+    for g in legs {
+        print_leg(rt, g, asked.midnight)?;
+    }
+    Ok(())
 }
 
-// The journey that the buffer's first `length` bytes are.
+// The journey that stands in `journey`: as it stands there where `bytes` are asked for, else in words.
 fn print_found(
     rt: &impl Print,
-    tables: &[u32],
+    ready: Ready<'_>,
     journey: &[u8],
-    length: usize,
-    round: u32,
-    q: Query,
-    midnight: u32,
+    found: Found,
+    asked: Question,
 ) -> io::Result<()> {
-    if journey.len() < length {
-        return Ok(());
+    match journey.get(..found.length) {
+        Some(bytes) if asked.bytes => print::text(rt, bytes),
+        Some(bytes) => print_journey(rt, ready, bytes, found.round, asked),
+        None => Ok(()),
     }
-    print_journey(rt, tables, &journey[..length], round, q, midnight)
-}
-
-fn print_refusal(
-    rt: &impl Print,
-    tables: &[u32],
-    path: &[u8],
-    number: u32,
-    q: Query,
-    midnight: u32,
-) -> io::Result<()> {
-    print::number(rt, number as u64)?;
-    refusing::print_meaning(rt, tables, path, number, q, midnight)
 }
 
 // 10, and what no journey is.
 fn print_no_route(rt: &impl Print, time: TimeConstraint) -> io::Result<()> {
-    match time {
-        TimeConstraint::Departure(_) => print::text(
-            rt,
-            b"10: no route found; a journey that departs begins with a ride, and a walk alone is none\n",
-        ),
-        TimeConstraint::Arrival(_) => print::text(
-            rt,
-            b"10: no route found; a journey that arrives ends with a ride, and a walk alone is none\n",
-        ),
+    let none = match time {
+        TimeConstraint::Departure(_) => {
+            "a journey that departs begins with a ride, and a walk alone is none"
+        }
+        TimeConstraint::Arrival(_) => {
+            "a journey that arrives ends with a ride, and a walk alone is none"
+        }
+    };
+    println!(rt; "10: no route found; {none}")
+}
+
+// Why there is no journey.
+fn print_error(rt: &impl Print, ready: Ready<'_>, error: Error, asked: Question) -> io::Result<()> {
+    match error {
+        Error::Refused(refusal) => {
+            print!(rt; "{}", u32::from(refusal))?;
+            refusing::print_meaning(rt, ready, refusal, asked)
+        }
+        Error::NoRouteFound => {
+            print_no_route(rt, asked.query.time)?;
+            refusing::meant::print_meant(rt, ready.tables, asked.query)
+        }
+        Error::FailedToBuildRoute => println!(rt; "11: a chosen stop but no leg"),
+        Error::TooLong(length) => {
+            println!(rt; "12: journey longer than its buffer: it takes {length} bytes")
+        }
     }
 }
 
-// The journey's bytes, where the answer is one: the buffer's first `length`. Whether it is.
-fn print_bytes(rt: &impl Print, journey: &[u8], told: Told) -> io::Result<bool> {
-    let Told::Answer(a) = told else {
-        return Ok(false);
-    };
-    let Answer::Found {
-        time: _,
-        stop: _,
-        round: _,
-        length,
-    } = a
-    else {
-        return Ok(false);
-    };
-    if journey.len() < length {
-        return Ok(false);
-    }
-    print::text(rt, &journey[..length])?;
-    Ok(true)
-}
-
-// The answer to q; the journey stands in `journey`, and is written as it stands there where `bytes` are asked for.
+// What is told of what was asked on the tables that are ready; the journey stands in `journey`.
 pub fn tell_asked(
     rt: &impl Print,
-    tables: &[u32],
-    path: &[u8],
+    ready: Ready<'_>,
     journey: &[u8],
-    told: Told,
+    told: Option<Answer>,
     asked: Question,
 ) -> io::Result<()> {
-    let q = asked.query;
-    if asked.bytes {
-        if print_bytes(rt, journey, told)? {
-            return Ok(());
-        }
-    }
-    tell(rt, tables, path, journey, told, q, asked.midnight)
-}
-
-// The answer to q in words; the tables are those of the file at `path`.
-fn tell(
-    rt: &impl Print,
-    tables: &[u32],
-    path: &[u8],
-    journey: &[u8],
-    told: Told,
-    q: Query,
-    midnight: u32,
-) -> io::Result<()> {
-    let time = q.time;
-    let Told::Answer(a) = told else {
-        return print::text(
-            rt,
-            b"these tables need more room than this program has: link the library (see README)\n",
-        );
-    };
-    match a {
-        Answer::Found {
-            time: _,
-            stop: _,
-            round,
-            length,
-        } => print_found(rt, tables, journey, length, round, q, midnight),
-        Answer::Refused(number) => print_refusal(rt, tables, path, number, q, midnight),
-        Answer::NoRouteFound => {
-            print_no_route(rt, time)?;
-            refusing::meant::print_meant(rt, tables, q)
-        }
-        Answer::FailedToBuildRoute => print::text(rt, b"11: a chosen stop but no leg\n"),
-        Answer::TooLong(length) => {
-            print::text(rt, b"12: journey longer than its buffer: it takes ")?;
-            print::number(rt, length as u64)?;
-            print::text(rt, b" bytes\n")
-        }
+    match told {
+        Some(Ok(found)) => print_found(rt, ready, journey, found, asked),
+        Some(Err(error)) => print_error(rt, ready, error, asked),
+        None => println!(rt;
+            "these tables need more room than this program has: link the library (see README)"
+        ),
     }
 }

@@ -1,35 +1,26 @@
 // The line that `checkjourney` prints of a verdict.
 #![tactic(auto)]
 
-ghost use Rattle.std.specs.Prelude.{◌≡◌, ◌∷◌, [], ◌+◌, ◌≤◌, length};
+ghost use Rattle.std.specs.Prelude.{◌≡◌, ◌+◌, ◌≤◌, length};
 ghost use Rattle.base.specs.Put.{with_bytes};
 ghost use Rattle.numbers.specs.Decimal.{digits};
 ghost use Rattle.verdict_line.specs.Printed.{Printable, bad_line, verdict_line};
 
-use handheld::Verdict;
+use handheld::{NoVerdict, Verdict};
 
-// `no` and the line's end.
-fn write_no(out: &mut [u8])
-    requires { 16 ≤ length out.old }
-    ensures { out.new ≡ with_bytes out.old 0 (110 ∷ 111 ∷ 10 ∷ []) }
+// Writes a text at the buffer's beginning; how long it is.
+#[tactic(auto, unfolding(base::specs::Put::with_bytes))]
+fn write_text(out: &mut [u8], text: &[u8]) -> usize
+    requires { length text.now ≤ length out.old }
+    ensures value { result ≡ length text.now }
+    ensures out_after { out.new ≡ with_bytes out.old 0 text.now }
 {
-    out[0] = 110;
-    out[1] = 111;
-    out[2] = 10;
-}
-
-// A word of four bytes.
-fn write_four(out: &mut [u8], w: u8, x: u8, y: u8, z: u8)
-    requires { 16 ≤ length out.old }
-    ensures { out.new ≡ with_bytes out.old 0 (w ∷ x ∷ y ∷ z ∷ []) }
-{
-    out[0] = w;
-    out[1] = x;
-    out[2] = y;
-    out[3] = z;
+    out[..text.len()].copy_from_slice(text);
+    text.len()
 }
 
 // A number from `at` on; where it ends.
+#[tactic(auto, using(crate::proofs::Printed::few))]
 fn write_number(out: &mut [u8], at: usize, n: u32) -> usize
     requires { at + 10 ≤ length out.old }
     ensures value { result ≡ at + length (digits n) }
@@ -46,10 +37,10 @@ fn write_bad(out: &mut [u8], offset: u32) -> usize
     ensures upper_bound { result ≤ 16 }
     ensures out_after { out.new ≡ with_bytes out.old 0 (bad_line offset) }
 {
-    write_four(out, 98, 97, 100, 32);
-    let e = write_number(out, 4, offset);
-    out[e] = 10;
-    e + 1
+    let at = write_text(out, b"bad ");
+    let end = write_number(out, at, offset);
+    out[end] = b'\n';
+    end + 1
 }
 
 // Writes the line at the buffer's beginning, and says how long it is. Of a refusal it is the number: what that means is told behind it.
@@ -61,15 +52,9 @@ pub fn write_line(v: Verdict, out: &mut [u8]) -> usize
     ensures out_after { out.new ≡ with_bytes out.old 0 (verdict_line v) }
 {
     match v {
-        Verdict::Yes => {
-            write_four(out, 121, 101, 115, 10);
-            4
-        }
-        Verdict::No => {
-            write_no(out);
-            3
-        }
-        Verdict::Bad(o) => write_bad(out, o as u32),
-        Verdict::Refused(number) => write_number(out, 0, number),
+        Ok(true) => write_text(out, b"yes\n"),
+        Ok(false) => write_text(out, b"no\n"),
+        Err(NoVerdict::Bad(leg)) => write_bad(out, leg.at as u32),
+        Err(NoVerdict::Refused(refusal)) => write_number(out, 0, u32::from(refusal)),
     }
 }

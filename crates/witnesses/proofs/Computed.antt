@@ -6,8 +6,8 @@ use mathlib.Core.List.{List, [], ◌∷◌}
 use lib.ListN.{replicate, length-replicate}
 use borrow.Author.Tests.{le-leb, eq-eqb}
 use Rattle.base.specs.Tab.{tab}
-use Rattle.model.specs.declared.Answer.{Answer}
-use Rattle.model.specs.declared.Answer.TheVariants.{Found, TooLong}
+use Rattle.std.specs.Prelude.{Ok, Err}
+use Rattle.model.specs.declared.Error.TheVariants.{TooLong}
 use Rattle.model.specs.declared.Direction.TheVariants.{Departure as Departing}
 use Rattle.model.specs.declared.Leg.{Leg}
 use Rattle.model.specs.declared.LegType.TheVariants.{Transit, Transfer}
@@ -19,7 +19,7 @@ use Rattle.model.specs.declared.Walks.TheVariants.{Unsaid}
 use Rattle.model.specs.Tables.{Net}
 use Rattle.model.specs.Alike.{Alike}
 use Rattle.model.specs.Spans.{transfer_span, walk_span}
-use Rattle.model.specs.Answer.{answer, legs_of}
+use Rattle.model.specs.Answer.{Answer, answer, legs_of}
 use Rattle.model.specs.Moments.{or_max, reading, better, ahead}
 use Rattle.model.specs.Lists.{upto, downto, gather, set_in, any_of}
 use Rattle.model.specs.Applying.{wins, store, apply1, apply_all, keep_all}
@@ -106,12 +106,12 @@ unfolding computed first second third
 N1_found = refl
 
 -- the answer, with a buffer of `room` bytes
-pub N1_answered : (room : ℕ) → 59 ≤ room → answer 0 true (net_of N) from_0_at_50 room ≡ Found (record { 0 = 450 }) 4 1 59
+pub N1_answered : (room : ℕ) → 59 ≤ room → answer 0 true (net_of N) from_0_at_50 room ≡ Ok (record { time = record { 0 = 450 }; stop = 4; round = 1; length = 59 })
 unfolding computed
 N1_answered room h = rw (le-leb 59 room h)
 
 -- "N1 with a buffer of 58 bytes"
-pub N10_answered : answer 0 true (net_of N) from_0_at_50 58 ≡ TooLong 59
+pub N10_answered : answer 0 true (net_of N) from_0_at_50 58 ≡ Err (TooLong 59)
 unfolding computed
 N10_answered = refl
 
@@ -119,7 +119,7 @@ pub N9_searched : legs_of (net_of N9) to_4_by_450 ≡ N9_legs
 unfolding computed
 N9_searched = refl
 
-pub N9_answered : (room : ℕ) → 59 ≤ room → answer 0 true (net_of N9) to_4_by_450 room ≡ Found (record { 0 = 100 }) 0 1 59
+pub N9_answered : (room : ℕ) → 59 ≤ room → answer 0 true (net_of N9) to_4_by_450 room ≡ Ok (record { time = record { 0 = 100 }; stop = 0; round = 1; length = 59 })
 unfolding computed
 N9_answered room h = rw (le-leb 59 room h)
 

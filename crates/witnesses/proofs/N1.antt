@@ -7,12 +7,12 @@ use mathlib.Core.List.{List, [], ◌∷◌}
 use lib.Dec.{ltb}
 use lib.ListN.{length, take}
 use Rattle.base.specs.Each.{Each}
-use Rattle.model.specs.declared.Answer.{Answer}
-use Rattle.model.specs.declared.Answer.TheVariants.{Found, TooLong}
+use Rattle.std.specs.Prelude.{Ok, Err}
+use Rattle.model.specs.declared.Error.TheVariants.{TooLong}
 use Rattle.model.specs.declared.Leg.{Leg}
 use Rattle.model.specs.declared.Query.{Query}
 use Rattle.model.specs.Bytes.{legs, write, read}
-use Rattle.model.specs.Answer.{may_walk, task_of, searched, legs_by, answer, ran}
+use Rattle.model.specs.Answer.{Answer, may_walk, task_of, searched, legs_by, answer, ran}
 use Rattle.model.specs.Work.{SameTimes}
 use Rattle.model.specs.Search.{search}
 use Rattle.model.specs.Back.{trace}
@@ -63,7 +63,7 @@ N1_places = record { leg = third; at = 38 } ∷ record { leg = second; at = 21 }
 module _ {before : Lent} {r : Answer} {after : Lent} (h : Solved N from_0_at_50 before r after)
     (roomy : sized (net_of N) before ≡ true) (enough : 59 ≤ length before.journey) where
   -- "450, round 1" at stop 4, and "59 bytes"
-  pub N1_answer : r ≡ Found (record { 0 = 450 }) 4 1 59
+  pub N1_answer : r ≡ Ok (record { time = record { 0 = 450 }; stop = 4; round = 1; length = 59 })
   N1_answer = answered N N_accepted from_0_at_50 h roomy ∙ N1_answered (length before.journey) enough
 
   -- the first 59 bytes of the buffer are the three legs, written
@@ -108,7 +108,7 @@ module _ {before : Lent} {r : Answer} {after : Lent} (h : Solved N from_0_at_50 
 -- N10, "N1 with a buffer of 58 bytes": 12, and `too_long_journey`, applied
 module _ {before : Lent} {r : Answer} {after : Lent} (h : Solved N from_0_at_50 before r after)
     (roomy : sized (net_of N) before ≡ true) (short : length before.journey ≡ 58) where
-  pub N10_answer : r ≡ TooLong 59
+  pub N10_answer : r ≡ Err (TooLong 59)
   N10_answer = answered N N_accepted from_0_at_50 h roomy ∙ ap (answer 0 true (net_of N) from_0_at_50) short ∙ N10_answered
 
   pub N10_journey : let aimed = (searched (net_of N) from_0_at_50).times.target in

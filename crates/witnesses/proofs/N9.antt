@@ -7,13 +7,12 @@ use mathlib.Core.List.{List, [], ◌∷◌, Memᴰ}
 use native.Mathlib.Omega.{arith}
 use lib.ListN.{length}
 use Rattle.base.specs.Tab.{tab}
-use Rattle.model.specs.declared.Answer.{Answer}
-use Rattle.model.specs.declared.Answer.TheVariants.{Found}
+use Rattle.std.specs.Prelude.{Ok}
 use Rattle.model.specs.declared.Leg.{Leg}
 use Rattle.model.specs.declared.LegType.TheVariants.{Transit, Transfer, Walk}
 use Rattle.model.specs.Spans.{transfer_span}
 use Rattle.model.specs.Tables.{Foot}
-use Rattle.model.specs.Answer.{may_walk}
+use Rattle.model.specs.Answer.{Answer, may_walk}
 use Rattle.model.specs.Journey.{Arriving, BothWays}
 use Rattle.repository.specs.Sections.{size, sec}
 use Rattle.repository.specs.NetOf.{count, list_of, transfer_row, walk_row, net_of}
@@ -52,7 +51,7 @@ N9_both Transfer (suc (suc (suc (suc (suc s))))) f i a m = let l : suc (suc (suc
 module _ {before : Lent} {r : Answer} {after : Lent} (h : Solved N9 to_4_by_450 before r after)
     (roomy : sized (net_of N9) before ≡ true) (enough : 59 ≤ length before.journey) where
   -- "100, round 1" at stop 0
-  pub N9_answer : r ≡ Found (record { 0 = 100 }) 0 1 59
+  pub N9_answer : r ≡ Ok (record { time = record { 0 = 100 }; stop = 0; round = 1; length = 59 })
   N9_answer = answered N9 N9_accepted to_4_by_450 h roomy ∙ N9_answered (length before.journey) enough
 
   -- `arrival_journey`, applied: the first leg leaves stop 0 at 100, the last comes to stop 4 by 450, with two rides

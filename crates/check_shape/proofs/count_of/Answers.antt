@@ -1,6 +1,5 @@
--- `count_of`: both words are in the section, and a count does not go below 0.
+-- `count_of`: both words are in the section.
 use borrow.Author.Rules.{rules}
-use Rattle.repository.specs.NetOf.{count}
 use Rattle.check_shape.proofs.Rooms.{entry_room, next_room, next_fits}
 use Rattle.check_shape.proofs.count_of.Goals as goal
 
@@ -12,11 +11,3 @@ overflow_add-i c = record { fits = search (rules, next_fits) }
 
 pub word-to-requires-clause-i_in_bounds : goal.word-to-requires-clause-i_in_bounds
 word-to-requires-clause-i_in_bounds c = search (rules, next_room)
-
-pub returns-then-to-from : goal.returns-then-to-from
-unfolding count
-returns-then-to-from c = search rules
-
-pub returns : goal.returns
-unfolding count
-returns c = search rules

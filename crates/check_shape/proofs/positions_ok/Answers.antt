@@ -1,18 +1,14 @@
--- `positions_ok`: the loop stops at the first route that does not pass.
+-- `positions_ok`: each route decides.
 use borrow.Author.Rules.{rules}
-use Rattle.base.proofs.All.{so_start}
-use Rattle.check_shape.proofs.Loops.{loop_on, loop_fails, loop_passes}
-use Rattle.check_shape.proofs.Tests.{positioned_is}
+use Prim.Native.Nat.{◌-◌}
+use Rattle.repository.specs.Sections.{size, ROUTE_STOP_STARTS}
+use Rattle.repository.specs.Laid.{positioned}
+use Rattle.check_shape.specs.Shape.{route_fits}
+use Rattle.repository.proofs.All.{all_over}
 use Rattle.check_shape.proofs.positions_ok.Goals as goal
 
-pub loop-r-init : goal.loop-r-init
-loop-r-init c = search (rules, so_start)
-
-pub loop-r-preserved : goal.loop-r-preserved
-loop-r-preserved c = search (rules, loop_on)
-
-pub returns-else-ok : goal.returns-else-ok
-returns-else-ok c = search (rules, positioned_is, loop_fails)
-
 pub returns : goal.returns
-returns c = search (rules, positioned_is, loop_passes)
+unfolding positioned route_fits
+returns c =
+    let w = c.args.tables.now in
+    all_over (route_fits w) (0) (size w ROUTE_STOP_STARTS - 1) _ _ _ c.all.ensures.ran (search rules) (search rules) (λ x t q k. search rules)

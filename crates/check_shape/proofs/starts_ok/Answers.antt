@@ -1,7 +1,6 @@
 -- `starts_ok`: every word that it reads is in the section.
 use borrow.Author.Rules.{rules}
 use Rattle.check_shape.proofs.Rooms.{first_room, last_room, starts_room}
-use Rattle.check_shape.proofs.Tests.{starting_is}
 use Rattle.check_shape.proofs.starts_ok.Goals as goal
 
 pub word-first-requires-clause-i_in_bounds : goal.word-first-requires-clause-i_in_bounds
@@ -12,6 +11,3 @@ word-last-requires-clause-i_in_bounds c = search (rules, last_room)
 
 pub never_falls-requires : goal.never_falls-requires
 never_falls-requires c = search (rules, starts_room)
-
-pub returns : goal.returns
-returns c = search (rules, starting_is)

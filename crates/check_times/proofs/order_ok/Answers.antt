@@ -26,5 +26,5 @@ all-preserved c = search (rules, positions_end)
 pub returns-after-all : goal.returns-after-all
 returns-after-all c = search (rules, ordered_is, routes_end)
 
-pub returns-else-good : goal.returns-else-good
-returns-else-good c = search (rules, ordered_is, fault, behind_is)
+pub returns-then-not-good : goal.returns-then-not-good
+returns-then-not-good c = search (rules, ordered_is, fault, behind_is)

@@ -27,6 +27,6 @@ pub returns-after-all : goal.returns-after-all
 unfolding timed
 returns-after-all c = search (rules, routes_end)
 
-pub returns-else-good : goal.returns-else-good
+pub returns-then-not-good : goal.returns-then-not-good
 unfolding timed
-returns-else-good c = search (rules, fault)
+returns-then-not-good c = search (rules, fault)

@@ -4,8 +4,8 @@ use Prim.Native.Nat.{◌-◌}
 use Rattle.columns.proofs.Finding.{Found}
 use Rattle.columns.proofs.find_column.Given as goal
 
-abbrev pub invariant-loop-f : goal.invariant-loop-f
-invariant-loop-f l = Found l.bytes l.a l.e l.name l.i l.k l.was
+abbrev pub invariant-loop-field : goal.invariant-loop-field
+invariant-loop-field l = Found l.bytes l.a l.e l.name l.i l.k l.was
 
-abbrev pub decreases-loop-f : goal.decreases-loop-f
-decreases-loop-f l = l.e - l.i
+abbrev pub decreases-loop-field : goal.decreases-loop-field
+decreases-loop-field l = l.e - l.i

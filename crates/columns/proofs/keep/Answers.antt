@@ -7,5 +7,5 @@ use Rattle.columns.proofs.keep.Goals as goal
 pub returns-then-place-k : goal.returns-then-place-k
 returns-then-place-k c = search (rules, keep_new)
 
-pub returns : goal.returns
-returns c = search (rules, keep_old)
+pub returns-else-place-k : goal.returns-else-place-k
+returns-else-place-k c = search (rules, keep_old)

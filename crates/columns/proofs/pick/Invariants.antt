@@ -4,8 +4,8 @@ use Prim.Native.Nat.{◌-◌}
 use Rattle.columns.proofs.Gathering.{Gathered}
 use Rattle.columns.proofs.pick.Given as goal
 
-abbrev pub invariant-loop-f : goal.invariant-loop-f
-invariant-loop-f l = Gathered l.w l.bytes l.a l.e l.i l.p
+abbrev pub invariant-loop-field : goal.invariant-loop-field
+invariant-loop-field l = Gathered l.w l.bytes l.a l.e l.i l.p
 
-abbrev pub decreases-loop-f : goal.decreases-loop-f
-decreases-loop-f l = l.e - l.i
+abbrev pub decreases-loop-field : goal.decreases-loop-field
+decreases-loop-field l = l.e - l.i

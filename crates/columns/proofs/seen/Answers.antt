@@ -7,5 +7,5 @@ use Rattle.columns.proofs.seen.Goals as goal
 pub returns-then-same : goal.returns-then-same
 returns-then-same c = search (rules, seen_named)
 
-pub returns : goal.returns
-returns c = search (rules, seen_other)
+pub returns-else-same : goal.returns-else-same
+returns-else-same c = search (rules, seen_other)

@@ -1,12 +1,7 @@
 -- `csv_text::line_end` meets its contract: the bytes behind are the line so far.
 -- Assumes nothing.
-use Prim.Native.Nat.{◌-◌}
-use lib.ListN.{length}
 use Rattle.csv_text.proofs.Lining.{Seeking}
 use Rattle.csv_text.proofs.line_end.Given as goal
 
 abbrev pub invariant-loop-i : goal.invariant-loop-i
 invariant-loop-i l = Seeking l.bytes l.a l.i
-
-abbrev pub decreases-loop-i : goal.decreases-loop-i
-decreases-loop-i l = length l.bytes - l.i

@@ -7,11 +7,11 @@ use Rattle.csv_text.proofs.plain_field.Goals as goal
 pub loop-i-init : goal.loop-i-init
 loop-i-init c = search (rules, going_start)
 
-pub returns-then-bytes-i-eq44 : goal.returns-then-bytes-i-eq44
-returns-then-bytes-i-eq44 c = search (rules, plain_comma)
+pub returns-in-44 : goal.returns-in-44
+returns-in-44 c = search (rules, plain_comma)
 
-pub returns-then-bytes-i-eq34 : goal.returns-then-bytes-i-eq34
-returns-then-bytes-i-eq34 c = search (rules, plain_quote)
+pub returns-in-34 : goal.returns-in-34
+returns-in-34 c = search (rules, plain_quote)
 
 pub loop-i-preserved : goal.loop-i-preserved
 loop-i-preserved c = search (rules, plain_on)

@@ -10,5 +10,5 @@ first_near-i-requires-clause-along c = search (rules, along)
 pub returns-then-i-n : goal.returns-then-i-n
 returns-then-i-n c = search (rules, earliest_at)
 
-pub returns : goal.returns
-returns c = search (rules, earliest_past)
+pub returns-else-i-n : goal.returns-else-i-n
+returns-else-i-n c = search (rules, earliest_past)

@@ -9,8 +9,8 @@ returns-then-hi-eq0 c = search (rules, closed_first)
 pub is_not_before-requires : goal.is_not_before-requires
 is_not_before-requires c = search (rules, in_down)
 
-pub returns-else-is_not_before : goal.returns-else-is_not_before
-returns-else-is_not_before c = search (rules, stop_down)
+pub returns-then-not-is_not_before : goal.returns-then-not-is_not_before
+returns-then-not-is_not_before c = search (rules, stop_down)
 
-pub loop-steps-preserved : goal.loop-steps-preserved
-loop-steps-preserved c = search (rules, step_before)
+pub loop-preserved : goal.loop-preserved
+loop-preserved c = search (rules, step_before)

@@ -12,5 +12,5 @@ is_not_before-requires c = search (rules, in_up)
 pub returns-then-is_not_before : goal.returns-then-is_not_before
 returns-then-is_not_before c = search (rules, stop_up)
 
-pub loop-steps-preserved : goal.loop-steps-preserved
-loop-steps-preserved c = search (rules, step_after)
+pub loop-preserved : goal.loop-preserved
+loop-preserved c = search (rules, step_after)

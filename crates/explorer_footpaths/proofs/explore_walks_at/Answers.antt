@@ -1,18 +1,36 @@
 -- `explore_walks_at`: the rows from j on are left, and lead where all of them lead.
+use Prim.Native.Nat.{ℕ, ◌≤◌}
+use mathlib.Core.Path.{ap, ◌∙◌}
+use native.Mathlib.Omega.{arith}
 use borrow.Author.Rules.{rules}
+use Rattle.model.specs.declared.LegType.TheVariants.{Walk}
+use Rattle.repository.specs.NetOf.{walk_row}
+use Rattle.repository.specs.Rows.{walks, first_row}
 use Rattle.repository.proofs.Lists.{walks_are}
+use Rattle.allocator.specs.Workspace.{state}
+use Rattle.allocator.proofs.Becoming.{same_self, same_then}
 use Rattle.explorer.proofs.Turns.{row_next, row_end}
+use Rattle.explorer_footpaths.specs.Footing.{foot_by}
 use Rattle.explorer_footpaths.proofs.Paths.{path_start, row_here}
+use Rattle.explorer_footpaths.proofs.Stops.{leaving_same}
 use Rattle.explorer_footpaths.proofs.explore_walks_at.Goals as goal
 
 pub loop-j-init : goal.loop-j-init
-loop-j-init c = (search (rules, path_start, walks_are), search rules, search rules, search rules, search rules)
+loop-j-init c = (search (rules, path_start, walks_are), same_self)
 
-pub explore_walk-requires-clause-of_stop : goal.explore_walk-requires-clause-of_stop
-explore_walk-requires-clause-of_stop c = search (rules, row_here)
+pub explore_walk-requires : goal.explore_walk-requires
+explore_walk-requires c =
+    let from : first_row walks c.args.tables.now c.args.from.stop ≤ c.loop-j.j = omega arith in
+    record { leaving = leaving_same c.loop-j.invariant.1 c.requires.leaving; of_stop = search (rules, row_here) }
 
 pub loop-j-preserved : goal.loop-j-preserved
-loop-j-preserved c = (search (rules, row_next), search rules, search rules, search rules, search rules)
+loop-j-preserved c =
+    let a = c.args in
+    let step = c.explore_walk.ensures in
+    let row = walk_row a.tables.now c.loop-j.j in
+    let now = state c.loop-j.workspace in
+    let e = step.holds ∙ ap (λ (s : ℕ). foot_by s a.round Walk a.from row now) c.loop-j.invariant.1.stops_same in
+    (search (rules, row_next, e), same_then c.loop-j.invariant.1 step.same)
 
 pub returns : goal.returns
-returns c = record { holds = search (rules, row_end); usable = search rules }
+returns c = record { holds = search (rules, row_end); same = c.loop-j.invariant.1 }

@@ -1,23 +1,15 @@
 -- `explore_walks_at`: the rows from j on are left, and lead where all of them lead.
-use Prim.Native.Nat.{◌-◌, ◌≤◌}
-use mathlib.Core.Path.{◌≡◌}
-use lib.ListN.{length}
 use Rattle.model.specs.declared.LegType.TheVariants.{Walk}
 use Rattle.repository.specs.NetOf.{walk_row, net_of}
-use Rattle.repository.specs.Rows.{walks, first_row, rest}
-use Rattle.allocator.specs.Layout.{view}
-use Rattle.allocator.specs.Does.{Usable}
+use Rattle.repository.specs.Rows.{rest}
+use Rattle.allocator.specs.Workspace.{state, SameSlices}
 use Rattle.explorer.specs.Turns.{in_turn, Turn}
 use Rattle.explorer_footpaths.specs.Footing.{foot_by}
 use Rattle.explorer_footpaths.proofs.explore_walks_at.Given as goal
 
 abbrev pub invariant-loop-j : goal.invariant-loop-j
 invariant-loop-j l =
-    Turn (foot_by l.round Walk l.from)
-    (in_turn (foot_by l.round Walk l.from) ((net_of l.tables).walks l.from.stop) (view l.round.stops l.round.routes l.initial.words l.initial.marks))
-    (rest (walk_row l.tables) l.j l.end) (view l.round.stops l.round.routes l.words l.marks)
-    × (first_row walks l.tables l.from.stop ≤ l.j) × Usable l.round.stops l.round.routes l.words l.marks
-    × (length l.words ≡ length l.initial.words) × (length l.marks ≡ length l.initial.marks)
-
-abbrev pub decreases-loop-j : goal.decreases-loop-j
-decreases-loop-j l = l.end - l.j
+    Turn (foot_by l.initial.workspace.stops l.round Walk l.from)
+    (in_turn (foot_by l.initial.workspace.stops l.round Walk l.from) ((net_of l.tables).walks l.from.stop) (state l.initial.workspace))
+    (rest (walk_row l.tables) l.j l.j-end) (state l.workspace)
+    × SameSlices l.initial.workspace l.workspace

@@ -14,8 +14,8 @@ returns-then-told-lt2-clause-out_after c = search (rules, short_left)
 pub returns-then-told-lt2-clause-told_after : goal.returns-then-told-lt2-clause-told_after
 returns-then-told-lt2-clause-told_after c = search (rules, short_told)
 
-pub tell_written-requires-clause-w_bound : goal.tell_written-requires-clause-w_bound
-tell_written-requires-clause-w_bound c = search (rules, times_size)
+pub tell_written-requires-clause-fits : goal.tell_written-requires-clause-fits
+tell_written-requires-clause-fits c = search (rules, times_size)
 
 pub returns-clause-value : goal.returns-clause-value
 returns-clause-value c = search (rules, whole_answer)

@@ -1,14 +1,16 @@
 -- `gtfs_headers::any` meets its contract: by where the column stands.
 -- Assumes nothing.
-use borrow.Author.Rules.{rules}
-use Rattle.gtfs_headers.proofs.Placing.{any_at, any_absent, any_twice}
+use Rattle.feed.specs.Columns.{any_place}
 use Rattle.gtfs_headers.proofs.any.Goals as goal
 
 pub returns-in-At : goal.returns-in-At
-returns-in-At c = search (rules, any_at)
+unfolding any_place
+returns-in-At c = rw (← c.in-At.ensures)
 
 pub returns-in-Absent : goal.returns-in-Absent
-returns-in-Absent c = search (rules, any_absent)
+unfolding any_place
+returns-in-Absent c = rw (← c.in-Absent.ensures)
 
 pub returns-in-Twice : goal.returns-in-Twice
-returns-in-Twice c = search (rules, any_twice)
+unfolding any_place
+returns-in-Twice c = rw (← c.in-Twice.ensures)

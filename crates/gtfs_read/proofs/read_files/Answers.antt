@@ -1,28 +1,27 @@
 -- `gtfs_read::read_files` meets its contract.
 -- Assumes nothing.
-use borrow.Author.Rules.{rules}
-use Rattle.gtfs_read.proofs.Files.{bad_told, bad_left, full_told, full_left, paths_lent, both_told, both_left}
+use mathlib.Core.Path.{sym}
+use Rattle.gtfs_read.proofs.Files.{first_says, first_leaves, paths_lent, both_say, both_left}
 use Rattle.gtfs_read.proofs.read_files.Goals as goal
 
-pub returns-in-Bad-clause-value : goal.returns-in-Bad-clause-value
-returns-in-Bad-clause-value c = search (rules, bad_told)
+pub returns-then-is_err-clause-value : goal.returns-then-is_err-clause-value
+returns-then-is_err-clause-value c =
+    first_says _ _ _ c.read_times-first.ensures.value (sym c.if-is_err.ensures.value) c.first_told.ensures
 
-pub returns-in-Bad-clause-left : goal.returns-in-Bad-clause-left
-returns-in-Bad-clause-left c = search (rules, bad_left)
-
-pub returns-in-Full-clause-value : goal.returns-in-Full-clause-value
-returns-in-Full-clause-value c = search (rules, full_told)
-
-pub returns-in-Full-clause-left : goal.returns-in-Full-clause-left
-returns-in-Full-clause-left c = search (rules, full_left)
+pub returns-then-is_err-clause-left : goal.returns-then-is_err-clause-left
+returns-then-is_err-clause-left c =
+    first_leaves _ _ _ c.read_times-first.ensures.value c.read_times-first.ensures.times_left _ (sym c.if-is_err.ensures.value)
 
 pub read_transfers-second-requires : goal.read_transfers-second-requires
 read_transfers-second-requires c =
-    paths_lent _ _ _ c.read_times-first.ensures.value c.read_times-first.ensures.times_left
-    (search rules)
+    paths_lent _ _ _ c.read_times-first.ensures.value c.read_times-first.ensures.times_left c.requires
 
-pub returns-in-Done-clause-value : goal.returns-in-Done-clause-value
-returns-in-Done-clause-value c = search (rules, both_told)
+pub returns-clause-value : goal.returns-clause-value
+returns-clause-value c =
+    both_say _ _ _ c.read_times-first.ensures.value c.read_times-first.ensures.times_left (sym c.if-is_err.ensures.value)
+    c.read_transfers-second.ensures.value c.both_told.ensures
 
-pub returns-in-Done-clause-left : goal.returns-in-Done-clause-left
-returns-in-Done-clause-left c = search (rules, both_left)
+pub returns-clause-left : goal.returns-clause-left
+returns-clause-left c =
+    both_left _ _ _ c.read_times-first.ensures.value c.read_times-first.ensures.times_left (sym c.if-is_err.ensures.value)
+    c.read_transfers-second.ensures.value c.read_transfers-second.ensures.transfers_left

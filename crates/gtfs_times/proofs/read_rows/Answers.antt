@@ -11,29 +11,29 @@ loop-i-init c = (search (rules, going_start), search rules, search rules, search
 pub told_bad-requires : goal.told_bad-requires
 told_bad-requires c = search (rules, line_fits)
 
-pub returns-in-Bad-clause-value : goal.returns-in-Bad-clause-value
-returns-in-Bad-clause-value c = search (rules, form_told)
+pub returns-in_default-clause-value : goal.returns-in_default-clause-value
+returns-in_default-clause-value c = search (rules, form_told)
 
-pub returns-in-Bad-clause-times_left : goal.returns-in-Bad-clause-times_left
-returns-in-Bad-clause-times_left c = search (rules, form_left)
+pub returns-in_default-clause-times_left : goal.returns-in_default-clause-times_left
+returns-in_default-clause-times_left c = search (rules, form_left)
 
-pub take-took-requires : goal.take-took-requires
-take-took-requires c = search (rules, takeable)
+pub take-requires : goal.take-requires
+take-requires c = search (rules, takeable)
 
-pub told_bad-requires-in-Bad-took : goal.told_bad-requires-in-Bad-took
-told_bad-requires-in-Bad-took c = search (rules, line_fits)
+pub told_bad-requires-in-Err-Bad : goal.told_bad-requires-in-Err-Bad
+told_bad-requires-in-Err-Bad c = search (rules, line_fits)
 
-pub returns-in-Bad-took-clause-value : goal.returns-in-Bad-took-clause-value
-returns-in-Bad-took-clause-value c = search (rules, plan_told)
+pub returns-in-Err-Bad-clause-value : goal.returns-in-Err-Bad-clause-value
+returns-in-Err-Bad-clause-value c = search (rules, plan_told)
 
-pub returns-in-Bad-took-clause-times_left : goal.returns-in-Bad-took-clause-times_left
-returns-in-Bad-took-clause-times_left c = search (rules, plan_left)
+pub returns-in-Err-Bad-clause-times_left : goal.returns-in-Err-Bad-clause-times_left
+returns-in-Err-Bad-clause-times_left c = search (rules, plan_left)
 
-pub returns-in-Full-clause-value : goal.returns-in-Full-clause-value
-returns-in-Full-clause-value c = search (rules, full_told)
+pub returns-in-Err-Full-clause-value : goal.returns-in-Err-Full-clause-value
+returns-in-Err-Full-clause-value c = search (rules, full_told)
 
-pub returns-in-Full-clause-times_left : goal.returns-in-Full-clause-times_left
-returns-in-Full-clause-times_left c = search (rules, full_left)
+pub returns-in-Err-Full-clause-times_left : goal.returns-in-Err-Full-clause-times_left
+returns-in-Err-Full-clause-times_left c = search (rules, full_left)
 
 pub loop-i-preserved : goal.loop-i-preserved
 loop-i-preserved c = (search (rules, going_on), search rules, search rules, search rules)

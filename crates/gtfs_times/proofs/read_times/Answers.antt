@@ -19,14 +19,14 @@ read_rows-requires-clause-le_from c = search (rules, rows_begin)
 pub read_rows-requires-clause-from_in_bounds : goal.read_rows-requires-clause-from_in_bounds
 read_rows-requires-clause-from_in_bounds c = search (rules, rows_inside)
 
-pub returns-in-Rows-clause-value : goal.returns-in-Rows-clause-value
-returns-in-Rows-clause-value c = search (rules, rows_told)
+pub returns-in-Some-clause-value : goal.returns-in-Some-clause-value
+returns-in-Some-clause-value c = search (rules, rows_told)
 
-pub returns-in-Rows-clause-times_left : goal.returns-in-Rows-clause-times_left
-returns-in-Rows-clause-times_left c = search (rules, rows_left)
+pub returns-in-Some-clause-times_left : goal.returns-in-Some-clause-times_left
+returns-in-Some-clause-times_left c = search (rules, rows_left)
 
-pub returns-in-Bad-clause-value : goal.returns-in-Bad-clause-value
-returns-in-Bad-clause-value c = search (rules, none_told)
+pub returns-in-None-clause-value : goal.returns-in-None-clause-value
+returns-in-None-clause-value c = search (rules, none_told)
 
-pub returns-in-Bad-clause-times_left : goal.returns-in-Bad-clause-times_left
-returns-in-Bad-clause-times_left c = search (rules, none_left)
+pub returns-in-None-clause-times_left : goal.returns-in-None-clause-times_left
+returns-in-None-clause-times_left c = search (rules, none_left)

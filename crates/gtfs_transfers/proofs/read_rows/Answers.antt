@@ -10,20 +10,20 @@ loop-i-init c = (search (rules, pacing_start), search rules, search rules)
 pub told_bad-requires : goal.told_bad-requires
 told_bad-requires c = search (rules, line_fits)
 
-pub returns-in-Bad-clause-value : goal.returns-in-Bad-clause-value
-returns-in-Bad-clause-value c = search (rules, bad_told)
+pub returns-in_default-clause-value : goal.returns-in_default-clause-value
+returns-in_default-clause-value c = search (rules, bad_told)
 
-pub returns-in-Bad-clause-transfers_left : goal.returns-in-Bad-clause-transfers_left
-returns-in-Bad-clause-transfers_left c = search (rules, bad_left)
+pub returns-in_default-clause-transfers_left : goal.returns-in_default-clause-transfers_left
+returns-in_default-clause-transfers_left c = search (rules, bad_left)
 
-pub take-took-requires : goal.take-took-requires
-take-took-requires c = search (rules, takeable)
+pub take-requires : goal.take-requires
+take-requires c = search (rules, takeable)
 
-pub returns-in-Full-clause-value : goal.returns-in-Full-clause-value
-returns-in-Full-clause-value c = search (rules, full_told)
+pub returns-in_default-take-clause-value : goal.returns-in_default-take-clause-value
+returns-in_default-take-clause-value c = search (rules, full_told)
 
-pub returns-in-Full-clause-transfers_left : goal.returns-in-Full-clause-transfers_left
-returns-in-Full-clause-transfers_left c = search (rules, full_left)
+pub returns-in_default-take-clause-transfers_left : goal.returns-in_default-take-clause-transfers_left
+returns-in_default-take-clause-transfers_left c = search (rules, full_left)
 
 pub loop-i-preserved : goal.loop-i-preserved
 loop-i-preserved c = (search (rules, pacing_on), search rules, search rules)

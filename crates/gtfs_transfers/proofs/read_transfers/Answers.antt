@@ -10,17 +10,17 @@ returns-then-second-a-clause-value c = search (rules, none_told)
 pub returns-then-second-a-clause-transfers_left : goal.returns-then-second-a-clause-transfers_left
 returns-then-second-a-clause-transfers_left c = search (rules, none_left)
 
-pub returns-in-Bad-clause-value : goal.returns-in-Bad-clause-value
-returns-in-Bad-clause-value c = search (rules, head_told)
+pub returns-in_default-clause-value : goal.returns-in_default-clause-value
+returns-in_default-clause-value c = search (rules, head_told)
 
-pub returns-in-Bad-clause-transfers_left : goal.returns-in-Bad-clause-transfers_left
-returns-in-Bad-clause-transfers_left c = search (rules, head_left)
+pub returns-in_default-clause-transfers_left : goal.returns-in_default-clause-transfers_left
+returns-in_default-clause-transfers_left c = search (rules, head_left)
 
 pub read_rows-requires : goal.read_rows-requires
 read_rows-requires c = search (rules, begins)
 
-pub returns-in-Columns-clause-value : goal.returns-in-Columns-clause-value
-returns-in-Columns-clause-value c = search (rules, rows_told)
+pub returns-clause-value : goal.returns-clause-value
+returns-clause-value c = search (rules, rows_told)
 
-pub returns-in-Columns-clause-transfers_left : goal.returns-in-Columns-clause-transfers_left
-returns-in-Columns-clause-transfers_left c = search (rules, rows_left)
+pub returns-clause-transfers_left : goal.returns-clause-transfers_left
+returns-clause-transfers_left c = search (rules, rows_left)

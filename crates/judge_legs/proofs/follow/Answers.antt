@@ -1,29 +1,31 @@
 -- `follow`: the bytes that are left, from where the legs have led, lead where all of them do.
-use borrow.Author.Rules.{rules}
-use native.Mathlib.Omega.{arith}
-use Rattle.journey.proofs.Told.{next_fits, next_less}
-use Rattle.judge_legs.proofs.Steps.{following_start, following_on, following_wrong, following_bad, following_end}
+use Rattle.std.proofs.Common.{rules, ap}
+use Rattle.judge_legs.proofs.Steps.{following_start, following_on, following_wrong, following_bad, following_end, reads_less}
 use Rattle.judge_legs.proofs.follow.Goals as goal
 
-pub loop-g-init : goal.loop-g-init
-loop-g-init c = search (rules, following_start)
+pub loop-leg-init : goal.loop-leg-init
+loop-leg-init c = following_start _ _ c.args.e (ap (λ x. x.now) c.open-legs.ensures.0) c.open-legs.ensures.1 c.requires.rides_bound
 
-pub overflow_add-at : goal.overflow_add-at
-overflow_add-at c =
-    let leg = c.leg_at-next.ensures in
-    omega (arith, next_fits _ _ leg c.in-Whole.is c.leg_size-at.ensures)
+pub returns-in_err-ok : goal.returns-in_err-ok
+returns-in_err-ok c =
+    let r = c.next.ensures in
+    rw c.from_residual.ensures (following_bad c.loop-leg.invariant r.value r.self_after c.in-Some.is c.in_err-ok.ensures.value)
 
-pub loop-g-smaller : goal.loop-g-smaller
-loop-g-smaller c = search (rules, next_less)
+pub returns-in_err-led : goal.returns-in_err-led
+returns-in_err-led c =
+    let r = c.next.ensures in
+    rw c.from_residual-in_err-led.ensures
+    (following_wrong c.loop-leg.invariant r.value r.self_after c.in-Some.is c.in_ok-ok.ensures.value c.onward.ensures c.in_err-led.was)
 
-pub loop-g-preserved : goal.loop-g-preserved
-loop-g-preserved c = search (rules, following_on)
+pub loop-leg-smaller : goal.loop-leg-smaller
+loop-leg-smaller c =
+    let r = c.next.ensures in
+    reads_less c.loop-leg.invariant r.value r.self_after c.in-Some.is c.in_ok-ok.ensures.value
 
-pub returns-in-Wrong : goal.returns-in-Wrong
-returns-in-Wrong c = search (rules, following_wrong)
+pub loop-leg-preserved : goal.loop-leg-preserved
+loop-leg-preserved c =
+    let r = c.next.ensures in
+    following_on c.loop-leg.invariant r.value r.self_after c.in-Some.is c.in_ok-ok.ensures.value c.onward.ensures c.in_ok-led.was
 
-pub returns-in-Bad : goal.returns-in-Bad
-returns-in-Bad c = search (rules, following_bad)
-
-pub returns-in-End : goal.returns-in-End
-returns-in-End c = search (rules, following_end)
+pub returns : goal.returns
+returns c = search (rules, following_end)

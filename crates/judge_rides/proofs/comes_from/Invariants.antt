@@ -7,7 +7,4 @@ use Rattle.handheld.specs.Fitting.{comes_at, comes_from}
 use Rattle.judge_rides.proofs.comes_from.Given as goal
 
 abbrev pub invariant-loop-a : goal.invariant-loop-a
-invariant-loop-a l = Sought (comes_at (net_of l.tables) l.r l.v l.g) (comes_from (net_of l.tables) l.r l.v l.g l.from) (upto (l.len - l.a) l.a)
-
-abbrev pub decreases-loop-a : goal.decreases-loop-a
-decreases-loop-a l = l.len - l.a
+invariant-loop-a l = Sought (comes_at (net_of l.tables) l.r l.v l.g) (comes_from (net_of l.tables) l.r l.v l.g l.from) (upto (l.a-end - l.a) l.a)

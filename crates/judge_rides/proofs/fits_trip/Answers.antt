@@ -1,18 +1,11 @@
 -- `fits_trip`: the positions that are left decide; the first that the trip may leave from decides alone.
-use borrow.Author.Rules.{rules}
-use Rattle.handheld.specs.Fitting.{fits_trip}
+use Rattle.std.proofs.Common.{rules}
 use Rattle.handheld.proofs.Any.{number_none}
-use Rattle.judge_rides.proofs.Riding.{ridable_laid, ridable_at, trip_start, trip_next, trip_here}
+use Rattle.judge_rides.proofs.Riding.{trip_start, trip_next, trip_here}
 use Rattle.judge_rides.proofs.fits_trip.Goals as goal
-
-pub route_len-len-requires : goal.route_len-len-requires
-route_len-len-requires c = search (rules, ridable_laid)
 
 pub loop-b-init : goal.loop-b-init
 loop-b-init c = search (rules, trip_start)
-
-pub leaves_at-requires : goal.leaves_at-requires
-leaves_at-requires c = search (rules, ridable_at)
 
 pub returns-then-leaves_at : goal.returns-then-leaves_at
 returns-then-leaves_at c = search (rules, trip_here)

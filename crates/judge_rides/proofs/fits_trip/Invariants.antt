@@ -7,7 +7,4 @@ use Rattle.handheld.specs.Fitting.{fits_from, fits_trip}
 use Rattle.judge_rides.proofs.fits_trip.Given as goal
 
 abbrev pub invariant-loop-b : goal.invariant-loop-b
-invariant-loop-b l = Sought (fits_from (net_of l.tables) l.r l.v l.g) (fits_trip (net_of l.tables) l.r l.v l.g) (upto (l.len - l.b) l.b)
-
-abbrev pub decreases-loop-b : goal.decreases-loop-b
-decreases-loop-b l = l.len - l.b
+invariant-loop-b l = Sought (fits_from (net_of l.tables) l.r l.v l.g) (fits_trip (net_of l.tables) l.r l.v l.g) (upto (l.b-end - l.b) l.b)

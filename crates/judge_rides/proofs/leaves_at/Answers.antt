@@ -1,16 +1,7 @@
 -- `leaves_at`: the stop first, then the moment.
 use borrow.Author.Rules.{rules}
-use Rattle.judge_rides.proofs.Riding.{at_laid, at_readable, at_stands, leaves_there, leaves_elsewhere}
+use Rattle.judge_rides.proofs.Riding.{at_readable, at_stands}
 use Rattle.judge_rides.proofs.leaves_at.Goals as goal
-
-pub stop_at-requires : goal.stop_at-requires
-stop_at-requires c = search (rules, at_laid)
 
 pub get_departure_time-requires : goal.get_departure_time-requires
 get_departure_time-requires c = search (rules, at_readable, at_stands)
-
-pub returns-then-stop_at-g : goal.returns-then-stop_at-g
-returns-then-stop_at-g c = search (rules, leaves_there)
-
-pub returns : goal.returns
-returns c = search (rules, leaves_elsewhere)

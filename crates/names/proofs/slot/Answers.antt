@@ -4,11 +4,11 @@ use borrow.Author.Rules.{rules}
 use Rattle.names.proofs.Slots.{hashing_start, hashing_on, hashing_end, slot_below}
 use Rattle.names.proofs.slot.Goals as goal
 
-pub loop-i-init : goal.loop-i-init
-loop-i-init c = search (rules, hashing_start)
+pub loop-x-init : goal.loop-x-init
+loop-x-init c = search (rules, hashing_start)
 
-pub loop-i-preserved : goal.loop-i-preserved
-loop-i-preserved c = search (rules, hashing_on)
+pub loop-x-preserved : goal.loop-x-preserved
+loop-x-preserved c = search (rules, hashing_on)
 
 pub returns-clause-value : goal.returns-clause-value
 returns-clause-value c = search (rules, hashing_end)

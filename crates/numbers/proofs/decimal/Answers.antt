@@ -1,26 +1,29 @@
 -- `numbers::decimal` meets its contract: the value so far and what is left say what all the digits are.
 -- Assumes nothing.
+use mathlib.Core.Path.{sym, ◌∙◌}
+use native.Mathlib.Omega.{arith}
 use borrow.Author.Rules.{rules}
-use Rattle.numbers.proofs.Reading.{decimal_empty, reads_start, reads_low, reads_high, reads_large, reads_on, reads_end}
+use borrow.Author.Tests.{eqb-false}
+use Rattle.numbers.proofs.Reading.{decimal_empty, reads_start, reads_tens_large, reads_no_digit, reads_large, reads_on, reads_end}
 use Rattle.numbers.proofs.decimal.Goals as goal
 
-pub returns-then-e-a : goal.returns-then-e-a
-returns-then-e-a c = search (rules, decimal_empty)
+pub returns-then-is_empty : goal.returns-then-is_empty
+returns-then-is_empty c = search (rules, decimal_empty)
 
-pub loop-i-init : goal.loop-i-init
-loop-i-init c = search (rules, reads_start)
+pub loop-x-init : goal.loop-x-init
+loop-x-init c = reads_start (eqb-false _ _ (sym c.if-is_empty.ensures))
 
-pub returns-then-x-lt48 : goal.returns-then-x-lt48
-returns-then-x-lt48 c = search (rules, reads_low)
+pub returns-in_err-checked_mul : goal.returns-in_err-checked_mul
+returns-in_err-checked_mul c = c.from_residual.ensures ∙ reads_tens_large c.loop-x.invariant c.loop-x-test.true (let h = c.in_err-checked_mul.ensures in omega arith)
 
-pub returns-then-x-gt57 : goal.returns-then-x-gt57
-returns-then-x-gt57 c = search (rules, reads_high)
+pub returns-in_err-digit : goal.returns-in_err-digit
+returns-in_err-digit c = c.from_residual-in_err-digit.ensures ∙ reads_no_digit c.loop-x.invariant c.loop-x-test.true c.in_err-digit.ensures.value
 
-pub returns-then-w-gt4294967295 : goal.returns-then-w-gt4294967295
-returns-then-w-gt4294967295 c = search (rules, reads_large)
+pub returns-in_err-v : goal.returns-in_err-v
+returns-in_err-v c = c.from_residual-in_err-v.ensures ∙ reads_large c.loop-x.invariant c.loop-x-test.true c.in_ok-digit.ensures.value (omega (arith, c.in_ok-checked_mul.ensures, c.in_err-v.ensures))
 
-pub loop-i-preserved : goal.loop-i-preserved
-loop-i-preserved c = search (rules, reads_on)
+pub loop-x-preserved : goal.loop-x-preserved
+loop-x-preserved c = reads_on c.loop-x.invariant c.loop-x-test.true c.in_ok-digit.ensures.value (omega (arith, c.in_ok-checked_mul.ensures, c.in_ok-v.ensures)) (omega (arith, c.in_ok-v.ensures))
 
 pub returns : goal.returns
 returns c = search (rules, reads_end)

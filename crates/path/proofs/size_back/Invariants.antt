@@ -6,8 +6,8 @@ use Rattle.allocator.specs.Layout.{parents_of}
 use Rattle.path.proofs.Counted.{Counted}
 use Rattle.path.proofs.size_back.Given as goal
 
-abbrev pub invariant-loop-g : goal.invariant-loop-g
-invariant-loop-g l = Counted l.d l.stops (parents_of l.stops l.routes l.words) l.k l.s l.round l.stop l.size
+abbrev pub invariant-loop-next : goal.invariant-loop-next
+invariant-loop-next l = Counted l.d l.stops (parents_of l.stops l.routes l.words) l.k l.s l.at.round l.at.stop l.size
 
-abbrev pub decreases-loop-g : goal.decreases-loop-g
-decreases-loop-g l = length (back l.d l.stops (parents_of l.stops l.routes l.words) l.stops l.round l.stop)
+abbrev pub decreases-loop-next : goal.decreases-loop-next
+decreases-loop-next l = length (back l.d l.stops (parents_of l.stops l.routes l.words) l.stops l.at.round l.at.stop)

@@ -13,8 +13,8 @@ returns-in-Stop-clause-value c = search (rules, stop_none)
 pub area_stops-requires-clause-a_bound : goal.area_stops-requires-clause-a_bound
 area_stops-requires-clause-a_bound c = search (rules, area_there)
 
-pub returns-clause-half_after : goal.returns-clause-half_after
-returns-clause-half_after c = search (rules, area_written)
+pub returns-in-Area-clause-half_after : goal.returns-in-Area-clause-half_after
+returns-in-Area-clause-half_after c = search (rules, area_written)
 
-pub returns-clause-value : goal.returns-clause-value
-returns-clause-value c = search (rules, area_all)
+pub returns-in-Area-clause-value : goal.returns-in-Area-clause-value
+returns-in-Area-clause-value c = search (rules, area_all)

@@ -4,14 +4,14 @@ use Rattle.base.proofs.Below.{entry_below}
 use Rattle.raptor_rounds.proofs.Targets.{scanned_none, scanned_on, scanned_all}
 use Rattle.raptor_rounds.proofs.scan_targets.Goals as goal
 
-pub loop-i-init : goal.loop-i-init
-loop-i-init c = search (rules, scanned_none)
+pub loop-s-init : goal.loop-s-init
+loop-s-init c = search (rules, scanned_none)
 
-pub aim_at-seen-requires-clause-s_lt_stops : goal.aim_at-seen-requires-clause-s_lt_stops
-aim_at-seen-requires-clause-s_lt_stops c = search (rules, entry_below)
+pub aim_at-seen-requires : goal.aim_at-seen-requires
+aim_at-seen-requires c = search (rules, entry_below)
 
-pub loop-i-preserved : goal.loop-i-preserved
-loop-i-preserved c = search (rules, scanned_on)
+pub loop-s-preserved : goal.loop-s-preserved
+loop-s-preserved c = search (rules, scanned_on)
 
 pub returns : goal.returns
 returns c = search (rules, scanned_all)

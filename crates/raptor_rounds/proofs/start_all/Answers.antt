@@ -1,17 +1,23 @@
 -- `raptor_rounds::start_all` meets its contract: every start stop labelled and marked, by `Starting`.
 use borrow.Author.Rules.{rules}
 use Rattle.base.proofs.Below.{entry_below}
+use Rattle.allocator.proofs.Becoming.{same_self, same_then}
 use Rattle.raptor_rounds.proofs.Starting.{starting_none, starting_on, starting_all}
+use Rattle.raptor_rounds.proofs.Steps.{below_same}
 use Rattle.raptor_rounds.proofs.start_all.Goals as goal
 
-pub loop-i-init : goal.loop-i-init
-loop-i-init c = (search (rules, starting_none), search rules, search rules, search rules)
+pub loop-s-init : goal.loop-s-init
+loop-s-init c = (search (rules, starting_none), same_self)
 
-pub start-requires-clause-s_lt_stops : goal.start-requires-clause-s_lt_stops
-start-requires-clause-s_lt_stops c = search (rules, entry_below)
+pub start-requires : goal.start-requires
+start-requires c =
+    let below = below_same c.loop-s.invariant.1 c.requires in
+    search (rules, entry_below, below)
 
-pub loop-i-preserved : goal.loop-i-preserved
-loop-i-preserved c = (search (rules, starting_on), search rules, search rules, search rules)
+pub loop-s-preserved : goal.loop-s-preserved
+loop-s-preserved c =
+    let step = c.start.ensures in
+    (search (rules, starting_on), same_then c.loop-s.invariant.1 step.same)
 
 pub returns : goal.returns
-returns c = record { holds = search (rules, starting_all); usable = search rules }
+returns c = record { holds = search (rules, starting_all); same = c.loop-s.invariant.1 }

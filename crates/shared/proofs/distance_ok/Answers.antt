@@ -15,6 +15,6 @@ pub returns-then-metres : goal.returns-then-metres
 unfolding of_bits
 returns-then-metres c = rw c.if-metres.true
 
-pub returns : goal.returns
+pub returns-else-metres : goal.returns-else-metres
 unfolding of_bits
-returns c = rw c.if-metres.false
+returns-else-metres c = rw c.if-metres.false

@@ -1,13 +1,7 @@
--- `arguments::bytes::after` meets its contract.
+-- `arguments::bytes::after`: a word that the argument begins with is no longer than it.
 use borrow.Author.Rules.{rules}
-use Rattle.arguments.proofs.Word.{after_word, after_none, begins_fits}
+use Rattle.arguments.proofs.Word.{starts_fits}
 use Rattle.arguments.proofs.bytes.after.Goals as goal
 
-pub returns-then-begins_with-clause-value : goal.returns-then-begins_with-clause-value
-returns-then-begins_with-clause-value c = search (rules, after_word)
-
 pub returns-then-begins_with-clause-upper_bound : goal.returns-then-begins_with-clause-upper_bound
-returns-then-begins_with-clause-upper_bound c = search (rules, begins_fits)
-
-pub returns-clause-value : goal.returns-clause-value
-returns-clause-value c = search (rules, after_none)
+returns-then-begins_with-clause-upper_bound c = search (rules, starts_fits)

@@ -10,8 +10,8 @@ loop-i-init c = search (rules, so_start)
 pub loop-i-preserved : goal.loop-i-preserved
 loop-i-preserved c = search (rules, so_on, at_digit)
 
-pub returns-else-is_digit : goal.returns-else-is_digit
-returns-else-is_digit c = search (rules, all_is, so_fails, at_digit)
+pub returns-then-not-is_digit : goal.returns-then-not-is_digit
+returns-then-not-is_digit c = search (rules, all_is, so_fails, at_digit)
 
 pub returns : goal.returns
 returns c = search (rules, all_is, so_passes)

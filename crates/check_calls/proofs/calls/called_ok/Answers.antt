@@ -16,11 +16,11 @@ rows_before-i-requires-clause-n_bound c = search (rules, calls_room)
 pub rows_before-i-requires-clause-rising : goal.rows_before-i-requires-clause-rising
 rows_before-i-requires-clause-rising c = search (rules, calls_rising)
 
-pub returns-then-n-i : goal.returns-then-n-i
-returns-then-n-i c = search (rules, called_none)
+pub returns-else-i-n : goal.returns-else-i-n
+returns-else-i-n c = search (rules, called_none)
 
 pub row_calls-requires-clause-i_bound : goal.row_calls-requires-clause-i_bound
 row_calls-requires-clause-i_bound c = search (rules, call_room)
 
-pub returns : goal.returns
-returns c = search (rules, called_there)
+pub returns-then-i-n : goal.returns-then-i-n
+returns-then-i-n c = search (rules, called_there)

@@ -1,24 +1,21 @@
--- `passed`: no call before row j names a route with a trip.
+-- `passed`: some call decides.
 use borrow.Author.Rules.{rules}
-use Rattle.base.proofs.All.{so_start}
-use Rattle.check_calls.proofs.Entries.{call_word, call_entry}
-use Rattle.check_calls.proofs.Loops.{none_runs, one_runs, runs_on}
+use Prim.Native.Nat.{◌+◌}
+use Rattle.std.proofs.lemmas.Iterator.{serves_from_Range}
+use Rattle.repository.specs.Sections.{sec, CALL_STARTS}
+use Rattle.repository.specs.Listed.{running, passes}
+use Rattle.check_calls.proofs.Entries.{call_room, call_runs}
+use Rattle.repository.proofs.All.{some_over}
 use Rattle.check_calls.proofs.served.passed.Goals as goal
 
-pub loop-j-init : goal.loop-j-init
-loop-j-init c = (search (rules, so_start), search rules)
-
-pub item-r-requires-clause-i_bound : goal.item-r-requires-clause-i_bound
-item-r-requires-clause-i_bound c = search (rules, call_word)
-
-pub row_count-requires-clause-entry : goal.row_count-requires-clause-entry
-row_count-requires-clause-entry c = search (rules, call_entry)
-
-pub returns-then-row_count-gt0 : goal.returns-then-row_count-gt0
-returns-then-row_count-gt0 c = search (rules, one_runs)
-
-pub loop-j-preserved : goal.loop-j-preserved
-loop-j-preserved c = (search (rules, runs_on), search rules)
+pub any-requires-clause-callable : goal.any-requires-clause-callable
+any-requires-clause-callable c = serves_from_Range (λ x q k. search rules) (λ x h g.
+    let t = c.requires in
+    let rows = c.rows_under.ensures in
+    search (rules, call_room t.laid c.args.s t.s_bound rows.end g, call_runs t.laid c.args.s t.tables_value t.s_bound rows.start rows.end h g))
 
 pub returns : goal.returns
-returns c = search (rules, none_runs)
+unfolding passes
+returns c =
+    let w = c.args.tables.now in
+    some_over (running w) (sec w CALL_STARTS c.args.s) (sec w CALL_STARTS (c.args.s + 1)) _ _ _ c.any.ensures.ran (search rules) (search rules) (λ x t q k. search rules)

@@ -7,17 +7,17 @@ use Rattle.check_listing.proofs.once.marked_once.Goals as goal
 pub loop-i-init : goal.loop-i-init
 loop-i-init c = (search (rules, marking_start), search rules)
 
-pub is_marked-seen-requires : goal.is_marked-seen-requires
-is_marked-seen-requires c = search (rules, mark_room)
+pub is_marked-requires : goal.is_marked-requires
+is_marked-requires c = search (rules, mark_room)
 
-pub returns-then-seen-clause-value : goal.returns-then-seen-clause-value
-returns-then-seen-clause-value c = search (rules, marked_twice)
+pub returns-then-is_marked-clause-value : goal.returns-then-is_marked-clause-value
+returns-then-is_marked-clause-value c = search (rules, marked_twice)
 
-pub returns-then-seen-clause-marks_after : goal.returns-then-seen-clause-marks_after
-returns-then-seen-clause-marks_after c = search (rules, left_twice)
+pub returns-then-is_marked-clause-marks_after : goal.returns-then-is_marked-clause-marks_after
+returns-then-is_marked-clause-marks_after c = search (rules, left_twice)
 
-pub returns-then-seen-clause-just_marked : goal.returns-then-seen-clause-just_marked
-returns-then-seen-clause-just_marked c = marks_none
+pub returns-then-is_marked-clause-just_marked : goal.returns-then-is_marked-clause-just_marked
+returns-then-is_marked-clause-just_marked c = marks_none
 
 pub set_mark-requires : goal.set_mark-requires
 set_mark-requires c = search (rules, mark_room)

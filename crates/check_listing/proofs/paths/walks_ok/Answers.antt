@@ -1,21 +1,12 @@
--- `walks_ok`: the walks that are left decide.
+-- `walks_ok`: each walk decides.
 use borrow.Author.Rules.{rules}
-use Rattle.base.proofs.All.{so_start}
-use Rattle.repository.specs.Listed.{walks}
-use Rattle.check_calls.proofs.Turns.{done, turn, fault}
-use Rattle.check_listing.proofs.Rows.{walk_right, walk_wrong}
+use Rattle.repository.specs.Sections.{rows, WALKS, WALK_WORDS}
+use Rattle.repository.specs.Listed.{walk_in, walks}
+use Rattle.repository.proofs.All.{all_over}
 use Rattle.check_listing.proofs.paths.walks_ok.Goals as goal
 
-pub loop-j-init : goal.loop-j-init
-loop-j-init c = search (rules, so_start)
-
-pub returns-then-item-limit : goal.returns-then-item-limit
-unfolding walks
-returns-then-item-limit c = search (rules, fault, walk_wrong)
-
-pub loop-j-preserved : goal.loop-j-preserved
-loop-j-preserved c = search (rules, turn, walk_right)
-
 pub returns : goal.returns
-unfolding walks
-returns c = search (rules, done)
+unfolding walks walk_in
+returns c =
+    let w = c.args.tables.now in
+    all_over (walk_in w) (0) (rows w WALKS WALK_WORDS) _ _ _ c.all.ensures.ran (search rules) (search rules) (λ x t q k. search rules)

@@ -1,20 +1,12 @@
--- `standings_ok`: the trips that are left decide.
+-- `standings_ok`: each trip decides.
 use borrow.Author.Rules.{rules}
-use Rattle.base.proofs.All.{so_start}
+use Rattle.repository.specs.Sections.{trips}
 use Rattle.repository.specs.Listed.{standing, standings}
-use Rattle.check_calls.proofs.Turns.{done, turn_on, turn_off}
+use Rattle.repository.proofs.All.{all_over}
 use Rattle.check_listing.proofs.standing.standings_ok.Goals as goal
-
-pub loop-v-init : goal.loop-v-init
-loop-v-init c = search (rules, so_start)
-
-pub returns-then-not-standing_ok : goal.returns-then-not-standing_ok
-unfolding standings
-returns-then-not-standing_ok c = search (rules, turn_off)
-
-pub loop-v-preserved : goal.loop-v-preserved
-loop-v-preserved c = search (rules, turn_on)
 
 pub returns : goal.returns
 unfolding standings
-returns c = search (rules, done)
+returns c =
+    let w = c.args.tables.now in
+    all_over (standing w) (0) (trips w) _ _ _ c.all.ensures.ran (search rules) (search rules) (λ x t q k. search rules)

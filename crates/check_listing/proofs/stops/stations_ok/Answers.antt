@@ -1,21 +1,12 @@
--- `stations_ok`: the stops that are left decide.
+-- `stations_ok`: each stop decides.
 use borrow.Author.Rules.{rules}
-use Rattle.base.proofs.All.{so_start}
 use Rattle.repository.specs.Sections.{stops}
-use Rattle.repository.specs.Listed.{stations}
-use Rattle.check_calls.proofs.Turns.{done, turn_on, turn_off}
+use Rattle.repository.specs.Listed.{station, stations}
+use Rattle.repository.proofs.All.{all_over}
 use Rattle.check_listing.proofs.stops.stations_ok.Goals as goal
-
-pub loop-s-init : goal.loop-s-init
-loop-s-init c = search (rules, so_start)
-
-pub returns-then-not-station_ok : goal.returns-then-not-station_ok
-unfolding stations
-returns-then-not-station_ok c = search (rules, turn_off)
-
-pub loop-s-preserved : goal.loop-s-preserved
-loop-s-preserved c = search (rules, turn_on)
 
 pub returns : goal.returns
 unfolding stations
-returns c = search (rules, done)
+returns c =
+    let w = c.args.tables.now in
+    all_over (station w) (0) (stops w) _ _ _ c.all.ensures.ran (search rules) (search rules) (λ x t q k. search rules)

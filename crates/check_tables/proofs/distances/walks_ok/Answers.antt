@@ -1,17 +1,11 @@
--- `walks_ok`: the loop stops at the first row that does not pass.
+-- `walks_ok`: each walk decides.
 use borrow.Author.Rules.{rules}
-use Rattle.base.proofs.All.{so_start}
-use Rattle.check_shape.proofs.Loops.{loop_on, loop_fails, loop_passes}
+use Rattle.repository.specs.Sections.{rows, WALKS, WALK_WORDS}
+use Rattle.check_tables.specs.Distances.{walk_fit}
+use Rattle.repository.proofs.All.{all_over}
 use Rattle.check_tables.proofs.distances.walks_ok.Goals as goal
 
-pub loop-j-init : goal.loop-j-init
-loop-j-init c = search (rules, so_start)
-
-pub loop-j-preserved : goal.loop-j-preserved
-loop-j-preserved c = search (rules, loop_on)
-
-pub returns-else-ok : goal.returns-else-ok
-returns-else-ok c = search (rules, loop_fails)
-
 pub returns : goal.returns
-returns c = search (rules, loop_passes)
+returns c =
+    let w = c.args.tables.now in
+    all_over (walk_fit w) (0) (rows w WALKS WALK_WORDS) _ _ _ c.all.ensures.ran (search rules) (search rules) (λ x t q k. search rules)

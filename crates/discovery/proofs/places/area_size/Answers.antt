@@ -4,8 +4,8 @@ use Rattle.discovery.proofs.Counting.{tally_part, tally_end}
 use Rattle.discovery.proofs.Areas.{named_known, children_stops, rest_part, rest_over, area_tally, part_fits}
 use Rattle.discovery.proofs.places.area_size.Goals as goal
 
-pub loop-i-init : goal.loop-i-init
-loop-i-init c = search (rules, area_tally)
+pub loop-s-init : goal.loop-s-init
+loop-s-init c = search (rules, area_tally)
 
 pub children-children-requires : goal.children-children-requires
 children-children-requires c = search (rules, named_known)
@@ -16,8 +16,8 @@ count_served-k-requires-clause-below c = search (rules, children_stops, named_kn
 pub overflow_add-k : goal.overflow_add-k
 overflow_add-k c = record { fits = search (rules, part_fits) }
 
-pub loop-i-preserved : goal.loop-i-preserved
-loop-i-preserved c = search (rules, tally_part, rest_part)
+pub loop-s-preserved : goal.loop-s-preserved
+loop-s-preserved c = search (rules, tally_part, rest_part)
 
 pub returns : goal.returns
 returns c = search (rules, tally_end, rest_over)

@@ -5,8 +5,8 @@ use Rattle.discovery.proofs.Areas.{named_known, children_stops, rest_part, rest_
 use Rattle.discovery.proofs.Areas.{part_room, area_placed}
 use Rattle.discovery.proofs.places.area_stops.Goals as goal
 
-pub loop-i-init : goal.loop-i-init
-loop-i-init c = (search (rules, area_filling), search (rules, area_tally), search rules)
+pub loop-s-init : goal.loop-s-init
+loop-s-init c = (search (rules, area_filling), search (rules, area_tally), search rules)
 
 pub children-children-requires : goal.children-children-requires
 children-children-requires c = search (rules, named_known)
@@ -17,8 +17,8 @@ put_served-k-requires-clause-below c = search (rules, children_stops, named_know
 pub put_served-k-requires-clause-stops_in_bounds : goal.put_served-k-requires-clause-stops_in_bounds
 put_served-k-requires-clause-stops_in_bounds c = search (rules, part_room)
 
-pub loop-i-preserved : goal.loop-i-preserved
-loop-i-preserved c = (search (rules, filling_part, rest_part), search (rules, tally_moved, rest_part), search rules)
+pub loop-s-preserved : goal.loop-s-preserved
+loop-s-preserved c = (search (rules, filling_part, rest_part), search (rules, tally_moved, rest_part), search rules)
 
 pub returns-clause-places_after : goal.returns-clause-places_after
 returns-clause-places_after c = search (rules, area_placed, filling_end, rest_over)

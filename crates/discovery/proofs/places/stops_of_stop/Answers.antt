@@ -7,8 +7,8 @@ use Rattle.discovery.proofs.places.stops_of_stop.Goals as goal
 pub children-requires : goal.children-requires
 children-requires c = search (rules, station_known)
 
-pub returns-in-At : goal.returns-in-At
-returns-in-At c = search (rules, of_station)
+pub returns-in-Some : goal.returns-in-Some
+returns-in-Some c = search (rules, of_station)
 
-pub returns-in-Nothing : goal.returns-in-Nothing
-returns-in-Nothing c = search (rules, of_none)
+pub returns-in-None : goal.returns-in-None
+returns-in-None c = search (rules, of_none)

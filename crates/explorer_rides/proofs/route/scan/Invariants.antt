@@ -1,5 +1,4 @@
 -- `scan`: one position after the other.
-use mathlib.Core.Path.{◌≡◌}
 use lib.ListN.{length}
 use Rattle.model.specs.Rides.{course}
 use Rattle.repository.specs.NetOf.{net_of}
@@ -9,9 +8,8 @@ use Rattle.explorer_rides.proofs.route.scan.Given as goal
 
 abbrev pub invariant-loop-p : goal.invariant-loop-p
 invariant-loop-p l =
-    Along l.tables l.round l.r (course l.round.direction (net_of l.tables) l.r l.start) l.initial.words l.initial.marks l.words l.marks l.ride
+    Along l.tables l.round l.r (course l.round.direction (net_of l.tables) l.r l.start) l.initial.workspace l.workspace l.ride
     (positions_left l.round.direction (net_of l.tables) l.r l.p)
-    × (length l.words ≡ length l.initial.words) × (length l.marks ≡ length l.initial.marks)
     × Within l.round.direction (net_of l.tables) l.r l.p
 
 abbrev pub decreases-loop-p : goal.decreases-loop-p

@@ -6,8 +6,8 @@ use Rattle.explorer_rides.proofs.seat.catch_trip.Goals as goal
 pub seat_at-requires-clause-i_bound : goal.seat_at-requires-clause-i_bound
 seat_at-requires-clause-i_bound c = search (rules, caught_in)
 
-pub returns-in-At : goal.returns-in-At
-returns-in-At c = search (rules, caught_at)
+pub returns-in-Some : goal.returns-in-Some
+returns-in-Some c = search (rules, caught_at)
 
-pub returns-in-Nothing : goal.returns-in-Nothing
-returns-in-Nothing c = search (rules, caught_not)
+pub returns-in-None : goal.returns-in-None
+returns-in-None c = search (rules, caught_not)

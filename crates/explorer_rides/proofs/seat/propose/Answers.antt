@@ -11,4 +11,4 @@ pub apply-requires-clause-stop_lt_stops : goal.apply-requires-clause-stop_lt_sto
 apply-requires-clause-stop_lt_stops c = search (rules, call_in)
 
 pub returns : goal.returns
-returns c = search (rules, proposed)
+returns c = record { holds = search (rules, proposed); same = c.apply.ensures.same }

@@ -7,8 +7,8 @@ use Rattle.gtfs_rows.proofs.times.trip_of.Goals as goal
 pub returns-then-is_last : goal.returns-then-is_last
 returns-then-is_last c = search (rules, trip_last)
 
-pub returns-in-At : goal.returns-in-At
-returns-in-At c = search (rules, trip_gone)
+pub returns-in-Some : goal.returns-in-Some
+returns-in-Some c = search (rules, trip_gone)
 
-pub returns-in-Nothing : goal.returns-in-Nothing
-returns-in-Nothing c = search (rules, trip_new)
+pub returns-in-None : goal.returns-in-None
+returns-in-None c = search (rules, trip_new)

@@ -1,5 +1,5 @@
 -- `some_row_fits`: the rows that are left decide.
-use borrow.Author.Rules.{rules}
+use Rattle.std.proofs.Common.{rules}
 use Rattle.judge_paths.proofs.Rows.{rows_start, rows_next, rows_found, rows_none}
 use Rattle.judge_paths.proofs.paths.some_row_fits.Goals as goal
 

@@ -1,5 +1,4 @@
 -- `some_row_fits`: the rows that are left decide.
-use Prim.Native.Nat.{◌-◌}
 use Rattle.repository.specs.NetOf.{net_of}
 use Rattle.repository.specs.Rows.{rest}
 use Rattle.handheld.specs.Any.{any, Sought}
@@ -8,7 +7,4 @@ use Rattle.judge_paths.specs.Paths.{path_row, paths_of}
 use Rattle.judge_paths.proofs.paths.some_row_fits.Given as goal
 
 abbrev pub invariant-loop-j : goal.invariant-loop-j
-invariant-loop-j l = Sought (fits_foot l.g) (any (fits_foot l.g) (paths_of l.walk (net_of l.tables) l.g.from)) (rest (path_row l.walk l.tables) l.j l.end)
-
-abbrev pub decreases-loop-j : goal.decreases-loop-j
-decreases-loop-j l = l.end - l.j
+invariant-loop-j l = Sought (fits_foot l.g) (any (fits_foot l.g) (paths_of l.walk (net_of l.tables) l.g.from)) (rest (path_row l.walk l.tables) l.j l.j-end)

@@ -1,10 +1,10 @@
--- `refusing::meant::print_meant`: what the check answers with 0 is accepted.
+-- `refusing::meant::print_meant`: tables that pass the check are accepted.
 use Rattle.std.proofs.Common.{rules}
-use Rattle.check_tables.proofs.Whole.{zero_accepted}
+use Rattle.refusing.proofs.Passed.{passed}
 use Rattle.refusing.proofs.meant.print_meant.Goals as goal
 
 pub print_place-requires : goal.print_place-requires
-print_place-requires g c = search (rules, zero_accepted)
+print_place-requires g c = search (rules, passed)
 
-pub print_place-requires-then-check-eq0 : goal.print_place-requires-then-check-eq0
-print_place-requires-then-check-eq0 g c = search (rules, zero_accepted)
+pub print_place-requires-then-is_ok : goal.print_place-requires-then-is_ok
+print_place-requires-then-is_ok g c = search (rules, passed)

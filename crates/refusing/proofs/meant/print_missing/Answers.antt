@@ -1,10 +1,10 @@
--- `refusing::meant::print_missing`: what the check answers with 0 is accepted.
+-- `refusing::meant::print_missing`: tables that pass the check are accepted.
 use Rattle.std.proofs.Common.{rules}
-use Rattle.check_tables.proofs.Whole.{zero_accepted}
+use Rattle.refusing.proofs.Passed.{passed}
 use Rattle.refusing.proofs.meant.print_missing.Goals as goal
 
 pub exists-requires : goal.exists-requires
-exists-requires g c = search (rules, zero_accepted)
+exists-requires g c = search (rules, passed)
 
 pub exists-requires-then-branch : goal.exists-requires-then-branch
-exists-requires-then-branch g c = search (rules, zero_accepted)
+exists-requires-then-branch g c = search (rules, passed)

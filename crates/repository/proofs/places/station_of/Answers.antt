@@ -9,5 +9,5 @@ word-p-requires c = search (rules, stop_word)
 pub returns-then-p : goal.returns-then-p
 returns-then-p c = search (rules, station_none)
 
-pub returns : goal.returns
-returns c = search (rules, station_some)
+pub returns-else-p : goal.returns-else-p
+returns-else-p c = search (rules, station_some)

@@ -1,2 +1,0 @@
--- A law on a part of a slice.
-pub mod Parts

@@ -1,6 +1,0 @@
--- `print::legs` ends: each leg takes a byte at least.
-use Rattle.std.proofs.Common.{length, ◌-◌}
-use Rattle.print.proofs.legs.Given as goal
-
-abbrev pub decreases-loop-at : goal.decreases-loop-at
-decreases-loop-at g l = length l.bytes - l.at

@@ -1,0 +1,2 @@
+-- The definitions that the contracts of `print` cite.
+pub mod Whole

@@ -1,2 +1,0 @@
--- The laws of `querying`.
-pub mod Reading

@@ -1,2 +1,0 @@
--- The laws of `questions`.
-pub mod Asking
