@@ -81,8 +81,9 @@ class Function:
     def __init__(self, path, text, found):
         self.path, self.public, self.name = path, bool(found.group(2)), found.group(3)
         inside = re.findall(r"^impl(?:<[^>]*>)? (?:(\w+)(?:<([^>]*)>)? for )?(\w+)", text[: found.start()], re.M) if found.group(1) else []
-        # as the folders of proofs are called: `u32FromFile` for `impl From<File> for u32`
+        # as the folders of proofs are called: `U32FromFile` for `impl From<File> for u32`
         self.owner = "".join([inside[-1][2], inside[-1][0], *re.findall(r"\w+", inside[-1][1])]) if inside else ""
+        self.owner = self.owner[:1].upper() + self.owner[1:]
         at = close(text, found.end() - 1, "(", ")") + 1
         self.parameters = text[found.end() : at - 1]
         self.result, self.asks, self.says = "", [], []
