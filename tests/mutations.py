@@ -219,6 +219,11 @@ MUTATIONS = [
     ("a public function that returns a slice and states nothing", added(LIB, "pub fn part(words: &[u32]) -> &[u32] {\n    words\n}\n"), True, FUNCTIONS, "allocator::part states nothing"),
     ("a public function that returns an array and states nothing", added(LIB, "pub fn pair() -> [u32; 2] {\n    [0, 0]\n}\n"), True, FUNCTIONS, "allocator::pair states nothing"),
     ("a public method that states nothing", added(LIB, "impl Offer {\n    pub fn first(&self) -> u32 {\n        0\n    }\n}\n"), True, FUNCTIONS, "allocator::Offer::first states nothing"),
+    ("a trait's method that no page lists", added(LIB, "impl fmt::Display for Offer {\n    fn fmt<W: fmt::Write>(&self, f: &mut fmt::Formatter<W>) -> fmt::Result {\n        write!(f, \"offer\")\n    }\n}\n"), True, FUNCTIONS, "allocator::OfferDisplay::fmt states nothing"),
+    ("one of a trait with a law, and no law", lambda: sub("crates/gtfs_read/src/lib.rt", "    ghost from_gives = { λ file number. number ≡ file_number file };\n", ""), True, FUNCTIONS, "gtfs_read::U32FromFile::from states nothing"),
+    ("one whose law bounds its result", lambda: sub("crates/gtfs_read/src/lib.rt", "number ≡ file_number file", "number ≤ file_number file"), True, FUNCTIONS, "gtfs_read::U32FromFile::from leaves open its result"),
+    ("one whose law does not say where it goes on", lambda: sub("crates/print/specs/Whole.antt", " × (s.rest.now ≡ bytes_behind r.rest.now given)", ""), True, FUNCTIONS, "print::WholeLegsIterator::next does not say what it leaves in self"),
+    ("a method of a trait left off the page", lambda: write("docs/FUNCTIONS.md", re.sub(r"^\| `telling::StayDisplay::fmt`.*\n", "", read("docs/FUNCTIONS.md"), flags=re.M)), False, FUNCTIONS, "is not what tests/functions.py writes"),
     ("a public function for C that states nothing", added("crates/kiosk_c/src/lib.rt", '#[unsafe(no_mangle)]\npub extern "C" fn kiosk_more() -> u32 {\n    0\n}\n'), True, FUNCTIONS, "kiosk_c::kiosk_more states nothing"),
     *(
         (f"one in {where}", added(f"crates/{where.replace('::', '/src/', 1)}.rt", "pub fn more() -> u32 {\n    0\n}\n"), True, FUNCTIONS, f"{where.removesuffix('::lib')}::more states nothing")
