@@ -203,7 +203,7 @@ for path in files("crates/*/proofs/**/*.antt") + files("crates/*/specs/**/*.antt
 for path in files("crates/*/src/**/*.rt"):
     roots |= reached_by(path, re.sub(r"//[^\n]*", "", text_of(path)))
 said = set()
-for path in ["README.md"] + [p for p in files("docs/*.md") if p not in (PROVING, "docs/LANDINGS.md")]:
+for path in ["README.md"] + [p for p in files("docs/*.md") if p not in (PROVING, "docs/LANDINGS.md", "docs/DESIGN-PASS.md")]:
     said |= tokens(text_of(path))
 roots |= {key for key in LAW if key[1] in said}
 reached, todo = set(), list(roots)
