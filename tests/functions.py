@@ -311,7 +311,7 @@ it asks of its caller (`requires`), what it states of its result and of everythi
 but for the forms named `_checked`, which ask for tables that were checked. What C links, `kiosk_export` and `gtfs_export`, has the contracts of `kiosk_c` and
 `gtfs_c` once more. The methods by which a type has a trait of the library, `from`, `next` and `fmt`, stand among them, under the prover's names:
 `U32FromFile::from` is that of `impl From<File> for u32`. What a `from` or a `next` states is its trait's law (`from_gives`, `next_gives`); a `fmt` has
-none, and stands among what prints.
+none, and stands among what prints. What a `#[derive(..)]` makes is not ours, and stands nowhere here.
 
 What is stated is the contract's own text, or that of the trait's law. A slice that may be written is `words.old` as it comes and `words.new` as it is left, one that is only read is
 `tables.now`, and what is given back is the `result`. The definitions named stand in
