@@ -16,7 +16,7 @@ import concurrent.futures, glob, os, re, shutil, sys, tempfile
 
 sys.dont_write_bytecode = True  # no folder of compiled scripts in the tree
 from reading import HERE, parts_of
-from speaks import Crate, read
+from speaks import BY_NAME, Crate, read
 
 sys.path.insert(0, os.path.join(HERE, "tools"))
 import proved
@@ -161,6 +161,11 @@ if __name__ == "__main__":
         for part, nodes in changes.items() if how == "list" else []:
             print(f"{name}/{part}: {', '.join(sorted(map(str, nodes)))} ({label})")
         parts, wrong = parts + len(changes), wrong + len(found)
+    for name in sorted(BY_NAME) if how == "before" else []:  # where types are spoken of by name alone, some part must need it
+        crate = Crate(f"{HERE}/crates/{name}", name, by_name=False)
+        if not any(wrong_of(crate, edit, None)[0] for one, label, edit in files if one == name):
+            wrong += 1
+            print(f"tests/speaks.py: {name} is in BY_NAME, and each of its parts can be refused by itself without: take it off the list")
     if how == "before":
         wanted = read(f"{CASE}/wanted").split("\n")[:-1]
         if tried() != wanted:

@@ -1,16 +1,19 @@
 #!/usr/bin/env python3
-# Writes docs/FUNCTIONS.md: every public function of every crate, what its contract states, in the contract's own words, and by what two results that
-# meet it are equal. A function that leaves something unsaid or open must stand in a list below, alone and with the reason;
+# Writes docs/FUNCTIONS.md: every public function of every crate, a trait's methods too, what its contract or the trait's law states, in its own words, and by
+# what two results that meet it are equal. A function that leaves something unsaid or open must stand in a list below, alone and with the reason;
 # one that stands there without need is an error too. With `check` the page is only held to the tree.
 import glob, os, re, sys
 
 sys.dont_write_bytecode = True  # no folder of compiled scripts in the tree
-from reading import HERE, crates, every_function, needs, source, text_of
+from reading import HERE, crates, every_function, needs, source, text_of, with_names
 
 # What prints or reads: where the words come from or go to is in no contract of the kit's library, so the tests compare it.
 PRINTS = "prints"
 READS = "reads its arguments, its input or a file"
 OUTSIDE = {
+    "arguments::moment::ClockDisplay::fmt": PRINTS,
+    "arguments::options::SaidDisplay::fmt": PRINTS,
+    "arguments::options::NoOptionDisplay::fmt": PRINTS,
     "print::text": PRINTS,
     "print::number": PRINTS,
     "print::field": PRINTS,
@@ -20,12 +23,15 @@ OUTSIDE = {
     "replay::rust::answer_line": PRINTS,
     "input::read_full": READS,
     "input::read_input": READS,
+    "loading::FaultDisplay::fmt": PRINTS,
     "loading::load": READS,
     "loading::print_fault": PRINTS,
     "network::load": READS,
+    "refusing::meant::NumberedDisplay::fmt": PRINTS,
     "refusing::meant::print_meant": PRINTS,
     "refusing::meant::print_missing": PRINTS,
     "refusing::print_meaning": PRINTS,
+    "telling::StayDisplay::fmt": PRINTS,
     "telling::tell_asked": PRINTS,
     "gtfs_again::write_and_read": PRINTS,
     "gtfs_telling::print_counts": PRINTS,
@@ -141,11 +147,22 @@ def stated(f):
 def fields_of(kind):
     """The fields of a struct of the tree."""
     for path in STRUCTS.get(kind, []):
-        found = re.search(r"^pub struct " + kind + r" \{(.*?)^\}", text_of(path), re.M | re.S)
+        found = re.search(r"^pub struct " + kind + r"(?:<[^>]*>)? \{(.*?)^\}", text_of(path), re.M | re.S)
         if found:
             return set(re.findall(r"^\s*(?:pub )?(\w+):", re.sub(r"//[^\n]*", "", found.group(1)), re.M))
         return {"0"}
     return set()
+
+
+def meant(f):
+    """The clauses of a function; where a trait's law is a definition of the crate's own, that definition's text, which is what it says."""
+    for clause in f.says:
+        name, *values = clause.split(" ")
+        for path in glob.glob(f"{HERE}/crates/{f.path.split('/')[1]}/specs/*.antt") if f.trait and re.fullmatch(r"\w+", name) else []:
+            told = re.search(rf"^abbrev pub {name} :.*\n{name} ([\w ]+) = (.*)$", text_of(os.path.relpath(path, HERE)), re.M)
+            if told:
+                clause = with_names(told.group(2), dict(zip(told.group(1).split(), values)))
+        yield clause
 
 
 def shape_of(what):
@@ -159,7 +176,7 @@ def fixed_by(f, what):
     spoken, laws, fields, rests, state = False, [], set(), set(), False
     others = [w for w in ([""] if f.result else []) + f.lent() if w != what]
     shape = shape_of(what)
-    for clause, is_on_ok in map(of_ok, f.says):
+    for clause, is_on_ok in map(of_ok, meant(f)):
         for c in (c for c in parts(clause) if re.search(shape, c)):
             spoken = True
             for law in (w for w in LAWS if re.search(rf"(?<![\w-]){w}(?![\w-])", c) and source(*LAWS[w])):
@@ -180,12 +197,12 @@ def fixed_by(f, what):
                 told = re.fullmatch(rf"(\w+) {shape}", side)
                 if told and told.group(1) in TELLS and source(*TELLS[told.group(1)]):
                     return TELLS[told.group(1)][1], on
-                field = re.fullmatch(rf"{shape}\.(\w+)", side) if not what else None
+                field = re.fullmatch(rf"{shape}\.(\w+)" + (r"(?:\.now)?" if what == "self" else ""), side) if what in ("", "self") else None
                 if field:
                     fields.add(field.group(1))
                     rests |= on
                 state = state or bool(re.match(r"(view|state_of \(view) ", side) and re.search(shape, side))
-    if fields and fields >= fields_of(f.result):
+    if fields and fields >= fields_of(f.kind if what else f.result):
         return EQUATION, rests
     if laws and laws[0] not in BESIDE:
         return laws[0], rests if laws[0] in OPERATIONS else set()
@@ -216,7 +233,7 @@ def outside():
     for crate, own in FUNCTIONS.items():
         below = [crate] + NEEDS[crate]
         for f in own:
-            if re.search(r"\bimpl \w|\bHostRuntime\b", f.parameters):
+            if re.search(r"\bimpl \w|\bHostRuntime\b|\bfmt::Formatter\b", f.parameters):
                 found.add((crate, f.name))
             reach[crate, f.name] = {(c, n) for n in re.findall(r"(\w+)\(", f.body) for c in below}
     while True:
@@ -292,16 +309,20 @@ Made by `tests/functions.py` from the sources: of each public function of a crat
 it asks of its caller (`requires`), what it states of its result and of everything lent (`ensures`), and by what two results that meet that are equal.
 [README.md](../README.md) leads to the other pages. The functions that other programs call, those of `raptor` and `kiosk_c`, ask for nothing,
 but for the forms named `_checked`, which ask for tables that were checked. What C links, `kiosk_export` and `gtfs_export`, has the contracts of `kiosk_c` and
-`gtfs_c` once more.
+`gtfs_c` once more. The methods by which a type has a trait of the library, `from`, `next` and `fmt`, stand among them, under the prover's names:
+`U32FromFile::from` is that of `impl From<File> for u32`. What a `from` or a `next` states is its trait's law (`from_gives`, `next_gives`); a `fmt` has
+none, and stands among what prints. What a `#[derive(..)]` makes is not ours, and stands nowhere here.
 
-What is stated is the contract's own text. A slice that may be written is `words.old` as it comes and `words.new` as it is left, one that is only read is
+What is stated is the contract's own text, or that of the trait's law. A slice that may be written is `words.old` as it comes and `words.new` as it is left, one that is only read is
 `tables.now`, and what is given back is the `result`. The definitions named stand in
 `crates/NAME/specs`; those that the promises rest on are copied in [STATEMENTS.md](STATEMENTS.md).
 
 The last column: *equation*, where the result and each slice that may be written is said to be equal to something; then two results are equal at once;
 *equation on `Ok`*, where that is said of what is given back if no read and no write fails.
-`does_unique` and `becomes_unique` (`allocator/proofs/Unique.antt`), where it is the record `Does` or `Becomes`; `same_words` (`allocator/proofs/Same.antt`), where it says the state that
-words and marks hold and that they are `Tidy` or `Usable` (nothing stands beside that state): two tidy workspaces of one state are equal word for word.
+`becomes_unique` (`allocator/proofs/Unique.antt`), where it is the record `Becomes`, what an operation makes of a `Workspace` (`does_unique` says it of the
+record `Does`, over words and marks that are handed side by side; `becomes_does` leads from the one to the other); `same_words`
+(`allocator/proofs/Same.antt`), where it says the state that words and marks hold and that they are `Tidy` or `Usable` (nothing stands beside that state):
+two tidy workspaces of one state are equal word for word.
 `solved_unique`, `ran_unique`
 (`raptor/proofs/Unique.antt`), `faced_unique` (`kiosk_c/proofs/Unique.antt`) and `asked_unique` (`asking/proofs/Unique.antt`), where it is the record
 `Solved`, `Ran`, `Faced` or `Tells`. `given_once` (`model/proofs/Refusals.antt`) and `by_number_once` (`gtfs_write/proofs/Numbered.antt`), where

@@ -17,6 +17,8 @@ TWICE = {
 }
 # A law or a definition that nothing reaches, and why it stays.
 ALONE = {}
+# A file whose attributes may be wider than a line, since the layout keeps each on one: how many are.
+WIDE = {"crates/kiosk_c/src/legs.rt": 2}
 NAME = r"[^\s(){}«»,;:\[\]λ.]+"
 TOKEN = re.compile(r"[^\W\d_][\w'⁺₀-₉ᴰ-]*")
 # What is written of the proof of one function, in its own folder; and how `#[tactic(..)]` names a law or a definition.
@@ -122,9 +124,12 @@ for path in files("crates/*/src/**/*.rt"):
 
 # ==== no wide line of code
 for path in files("crates/*/src/**/*.rt"):
-    for number, line in enumerate(text_of(path).split("\n"), 1):
-        if len(line) > WIDEST and not line.lstrip().startswith("#[tactic("):  # the layout keeps an attribute on one line
-            complain(f"{path}, line {number}", f"{len(line)} characters, and {WIDEST} are the most")
+    wide = [(number, line) for number, line in enumerate(text_of(path).split("\n"), 1) if len(line) > WIDEST]
+    bare = [number for number, line in wide if re.fullmatch(r" *#\[tactic\([\w:, ()-]*\)\]", line)]  # an attribute and nothing beside it
+    if path in WIDE and len(bare) < WIDE[path]:
+        complain("tests/house.py", f"{path} has {len(bare)} wide attributes, and WIDE says {WIDE[path]}")
+    for number, line in (one for one in wide if one[0] not in bare or len(bare) > WIDE.get(path, 0)):
+        complain(f"{path}, line {number}", f"{len(line)} characters, and {WIDEST} are the most")
 
 # ==== no function of a library with more than seven parameters, unless it is said why
 said = re.search(r"^## More than seven parameters\n(.*?)(?=^## |\Z)", text_of(DECISIONS), re.M | re.S)
@@ -203,7 +208,7 @@ for path in files("crates/*/proofs/**/*.antt") + files("crates/*/specs/**/*.antt
 for path in files("crates/*/src/**/*.rt"):
     roots |= reached_by(path, re.sub(r"//[^\n]*", "", text_of(path)))
 said = set()
-for path in ["README.md"] + [p for p in files("docs/*.md") if p not in (PROVING, "docs/LANDINGS.md")]:
+for path in ["README.md"] + [p for p in files("docs/*.md") if p not in (PROVING, "docs/LANDINGS.md", "docs/DESIGN-PASS.md")]:
     said |= tokens(text_of(path))
 roots |= {key for key in LAW if key[1] in said}
 reached, todo = set(), list(roots)

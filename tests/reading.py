@@ -79,11 +79,14 @@ class Function:
     """A function of a .rt file: its parameters, its result's type, what it asks and what it states, its head and its body as text."""
 
     def __init__(self, path, text, found):
-        self.path, self.public, self.name = path, bool(found.group(2)), found.group(3)
-        inside = re.findall(r"^impl(?:<[^>]*>)? (?:(\w+)(?:<([^>]*)>)? for )?(\w+)", text[: found.start()], re.M) if found.group(1) else []
-        # as the folders of proofs are called: `U32FromFile` for `impl From<File> for u32`
-        self.owner = "".join([inside[-1][2], inside[-1][0], *re.findall(r"\w+", inside[-1][1])]) if inside else ""
+        self.path, self.name = path, found.group(3)
+        inside = list(IMPL.finditer(text, 0, found.start())) if found.group(1) else []
+        trait, of, self.kind = inside[-1].groups() if inside else (None, None, "")
+        # as the folders of proofs are called: `U32FromFile` for `impl From<File> for u32`, `ClockDisplay` for `impl fmt::Display for Clock`
+        self.owner = "".join([self.kind, trait or "", *re.findall(r"\w+", of or "")])
         self.owner = self.owner[:1].upper() + self.owner[1:]
+        # whoever has a value of the type calls the methods of its traits, by the trait's name, and no `pub` stands over them
+        self.trait, self.public = trait, bool(found.group(2) or trait)
         at = close(text, found.end() - 1, "(", ")") + 1
         self.parameters = text[found.end() : at - 1]
         self.result, self.asks, self.says = "", [], []
@@ -105,8 +108,23 @@ class Function:
         self.head = text[found.start() : at].rstrip()
         self.begins, self.ends = at, close(text, at, "{", "}") + 1 if text.startswith("{", at) else at
         self.body = text[self.begins : self.ends]
+        if trait:
+            self.says += self.law(text[inside[-1].end() : found.start()])
         crate, module = path.split("/")[1], os.path.basename(path)[:-3]
         self.where = "::".join([crate] + ([module] if module != "lib" else []) + ([self.owner] if self.owner else []) + [self.name])
+
+    def law(self, above):
+        """What the trait's law says of a method, `ghost from_gives = { λ e m. m ≡ .. }` over `from`, as a clause would: of `self` as it comes or of the
+        first parameter, of the result, and of `self` as it is left."""
+        found = re.search(rf"ghost {self.name}_gives = \{{(.*?)\}};", above, re.S)
+        if not found:
+            return []
+        names = re.findall(r"(\w+)\s*:", self.parameters)
+        values = ["self.old", *names, "result", "self.new"] if re.match(r"\s*&\s*mut self\b", self.parameters) else [*names, "result"]
+        told = re.fullmatch(r"λ ([\w ]+)\. (.*)", " ".join(found.group(1).split()))
+        if not told:
+            return [" ".join([*found.group(1).split(), *values])]
+        return [with_names(told.group(2), dict(zip(told.group(1).split(), values)))]
 
     def lent(self):
         """The parameters that may be written. One that the result goes on to hold, by its lifetime and by what the contract says, is the result's."""
@@ -126,6 +144,12 @@ def close(text, at, opens, closes):
     raise ValueError("a bracket that does not close")
 
 
+def with_names(text, values):
+    """The text with a value in place of each name."""
+    return re.sub(r"(?<![\w.'-])\w+(?![\w'-])", lambda m: values.get(m.group(), m.group()), text)
+
+
+IMPL = re.compile(r"^impl(?:<[^>]*>)? (?:(?:\w+::)*(\w+)(?:<([^>]*)>)? for )?(\w+)", re.M)
 HEAD = re.compile(r"^( *)(pub )?(?:extern \"C\" )?fn (\w+)\s*(?:<[^>]*>)?\(", re.M)
 
 

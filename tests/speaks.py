@@ -4,7 +4,17 @@ import functools, glob, os, re, sys
 sys.dont_write_bytecode = True  # no folder of compiled scripts in the tree
 from reading import Function, HEAD
 
+# What stands in no function, as a type does, or over one, as `#[tactic(..)]`, is spoken of by all functions of the crate. In these crates a type is spoken of by
+# whoever names it, and what stands over a function by its own proof alone. Each with the reason; `tests/edits.py before` refuses one that is here without need.
+BY_NAME = {
+    "allocator": "a workspace's type says `Tidy`: `is_better`, which knows no workspace, would speak of it too",
+    "path": "over `backtrack` the law `placed_once` is named, which speaks of `Once`: `size_back`, which puts no leg, would speak of it too",
+}
 TYPE = re.compile(r"^ *(?:pub(?:\([^)]*\))? )?(?:struct|enum) (\w+)[^;{]*(?:;|\{.*?^ *\})", re.M | re.S)
+# What stands for a type or holds a value of one: its text names the type, and who names it need not.
+NAMED = re.compile(r"^ *(?:pub(?:\([^)]*\))? )?(?:type|const|static) (?!fn\b)(\w+).*?;$", re.M | re.S)
+# A trait's `impl` up to its first method: the types that it names, as `type Item = Leg;` does, are spoken of by whoever names its own.
+TRAITS = re.compile(r"^impl\b[^\n]*? for (\w+)[^\n]*\n.*\Z", re.M | re.S)
 
 
 def read(path):
@@ -15,8 +25,9 @@ def read(path):
 class Crate:
     """A crate as nodes: `specs/X.antt`, `proofs/X.antt`; of each function F its contract `head:F`, its body `body:F`, and `fn:F`, what is proved of it."""
 
-    def __init__(self, folder, name):
+    def __init__(self, folder, name, by_name=None):
         self.name, self.texts, self.functions = name, {}, {}
+        by_name = name in BY_NAME if by_name is None else by_name
         for part in ("src", "specs", "proofs"):
             for path in sorted(glob.glob(f"{folder}/{part}/**/*", recursive=True)):
                 if os.path.isfile(path):
@@ -26,18 +37,18 @@ class Crate:
                 f = Function(f"crates/{self.name}/{file}", self.texts[file], found)
                 module = file[len("src/") : -len(".rt")].replace("/", "::")
                 f.file, f.starts = file, found.start()
-                f.leads = re.search(r"(?:^ *(?:#\[|//)[^\n]*\n)*\Z", self.texts[file][: f.starts], re.M).start()
+                f.leads = re.search(r"(?:^ *(?:#\[|//)[^\n]*\n)*\Z", self.texts[file][: f.starts], re.M).start() if by_name else f.starts
                 self.functions["::".join(([] if module in ("lib", "main") else [module]) + ([f.owner] if f.owner else []) + [f.name])] = f
         self.says = {}
         for file in [f for f in self.texts if f.endswith(".antt")]:
             self.says.setdefault(self.node(file), set()).update(self.named(self.texts[file]) - {self.node(file)})
-        outside, types = set(), {}  # what stands in no function is spoken of by all; a type by whoever names it
+        outside, types = set(), {}
         for file in [f for f in self.texts if f.endswith(".rt")]:
             for a, b in self.between(file):
                 stretch = self.texts[file][a:b]
-                for found in TYPE.finditer(stretch):
+                for found in [*TYPE.finditer(stretch), *NAMED.finditer(stretch), *TRAITS.finditer(stretch)]:
                     types.setdefault(found.group(1), []).append((file, found.group()))
-                outside |= self.spoken(self.texts[file], TYPE.sub("", stretch))
+                outside |= self.spoken(self.texts[file], TYPE.sub("", stretch) if by_name else stretch)
         of = lambda words: {f"type:{word}" for word in re.findall(r"\w+", words) if word in types}
         for word, texts in types.items():
             self.says[f"type:{word}"] = set().union(*(self.spoken(self.texts[file], text) | of(text) for file, text in texts))
