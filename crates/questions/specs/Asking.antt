@@ -75,11 +75,11 @@ abbrev pub no_moment : NoMoment → NoQuestion
 no_moment e = unmoved e
 
 -- what is asked at a moment, or why there is no moment
-abbrev pub asked_at : Location → Location → Direction → Moment → Options → Result Question NoQuestion
-asked_at from to d (Ok t) o = Ok (asks from to (time_for d t) o)
-asked_at from to d (Err e) o = Err (no_moment e)
+abbrev pub asked_toward : Location → Location → Direction → Moment → Options → Result Question NoQuestion
+asked_toward from to d (Ok t) o = Ok (asks from to (time_for d t) o)
+asked_toward from to d (Err e) o = Err (no_moment e)
 
 -- the same in the direction that an argument is, or that it is none
 abbrev pub asked_for : Location → Location → Option Direction → Moment → Options → Result Question NoQuestion
-asked_for from to (Some d) moment o = asked_at from to d moment o
+asked_for from to (Some d) moment o = asked_toward from to d moment o
 asked_for from to None moment o = Err NoDirection

@@ -22,7 +22,7 @@ pub struct Question {
 }
 
 // Why nothing is asked: an argument is no direction, or there is no moment.
-#[derive(Clone, Copy)]
+#[derive(Clone, Copy, Debug, PartialEq, Eq)]
 pub enum NoQuestion {
     NoDirection,
     NoMoment(NoMoment),
