@@ -84,5 +84,10 @@ is_said o (Midnight t) = is_some o.midnight
 is_said o Bytes = o.bytes
 
 -- the options with one more, which argument i said: "each at most once"
-abbrev pub with_said : Options → Said → ℕ → Result Options NoOption
-with_said o said i = cond (is_said o said) (Err (Twice said)) (Ok (more_of o said i))
+abbrev pub with_one : Options → Said → ℕ → Result Options NoOption
+with_one o said i = cond (is_said o said) (Err (Twice said)) (Ok (more_of o said i))
+
+-- the same of what argument i says: where it is no option, why it is none
+abbrev pub with_said : Options → Saying → ℕ → Result Options NoOption
+with_said o (Ok said) i = with_one o said i
+with_said o (Err e) i = Err e

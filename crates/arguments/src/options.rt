@@ -151,10 +151,11 @@ pub fn said_of(arg: &[u8]) -> Result<Said, NoOption>
     Err(NoOption::Unknown)
 }
 
-// The options with one more, which argument i said.
-pub fn with_said(o: Options, said: Said, i: usize) -> Result<Options, NoOption>
+// The options with one more, which argument i said; why it said none is handed on.
+pub fn with_said(o: Options, said: Result<Said, NoOption>, i: usize) -> Result<Options, NoOption>
     ensures { result ≡ with_said o said i }
 {
+    let said = said?;
     let mut more = o;
     let twice = match said {
         Said::Walks(yes) => more.walks.replace(yes).is_some(),

@@ -5,14 +5,13 @@ mod options; // options.rt: the options that the arguments say
 
 ghost use Rattle.std.specs.Prelude.{◌≡◌, ◌≤◌, length, IfOk, IfSome};
 ghost use Rattle.arguments.specs.Place.{place_said};
-ghost use Rattle.questions.specs.Asking.{direction_said};
-ghost use Rattle.querying.specs.Reading.{spot_said};
+ghost use Rattle.questions.specs.Asking.{spot_of, direction_said};
 
 use arguments::bytes::NoNumber;
 use arguments::moment::NoMoment;
 use arguments::options::Options;
 use model::{Direction, Location};
-use questions::Question;
+use questions::{NoQuestion, Question};
 use std::env::FillError;
 use std::io;
 use std::rt::Env;
@@ -34,7 +33,9 @@ fn read_arg<'a>(
     buffer: &'a mut [u8],
     i: usize,
     name: &str,
-) -> io::Result<Option<&'a [u8]>> {
+) -> io::Result<Option<&'a [u8]>>
+    ensures { IfOk result (λ o. IfSome o (λ arg. length arg.now ≤ length buffer.old)) }
+{
     match rt.arg(i, buffer) {
         Ok(n) => Ok(Some(&buffer[..n])),
         Err(FillError::NotPresent) => {
@@ -49,22 +50,31 @@ fn read_arg<'a>(
 }
 
 // The same where nothing is said: an argument that is not given, or not whole in its buffer, has no byte.
-fn quiet_arg<'a>(rt: &impl Env, buffer: &'a mut [u8], i: usize) -> &'a [u8] {
+fn quiet_arg<'a>(rt: &impl Env, buffer: &'a mut [u8], i: usize) -> &'a [u8]
+    ensures { length result.now ≤ length buffer.old }
+{
     let n = rt.arg(i, buffer).unwrap_or(0);
     &buffer[..n]
 }
 
+// Says why an argument is no place.
+fn say_no_place(rt: &impl Print, name: &str, arg: &[u8], why: NoNumber) -> io::Result<()> {
+    let why = match why {
+        NoNumber::NoDigits => " is no place: give the number of a stop, or area: and a number",
+        NoNumber::TooLarge => " is no place: a number is at most 4294967295",
+    };
+    say(rt, name, arg, why)
+}
+
 // The place that an argument is; says why it is none.
 fn place_of(rt: &impl Print, name: &str, arg: &[u8]) -> io::Result<Option<Location>>
-    ensures { IfOk result (λ s. s ≡ spot_said (place_said arg.now)) }
+    ensures { IfOk result (λ s. s ≡ spot_of (place_said arg.now)) }
 {
-    let why = match arguments::place::place_of(arg) {
-        Ok(place) => return Ok(Some(questions::spot_of(place))),
-        Err(NoNumber::NoDigits) => " is no place: give the number of a stop, or area: and a number",
-        Err(NoNumber::TooLarge) => " is no place: a number is at most 4294967295",
-    };
-    say(rt, name, arg, why)?;
-    Ok(None)
+    let place = arguments::place::place_of(arg);
+    if let Err(why) = place {
+        say_no_place(rt, name, arg, why)?;
+    }
+    Ok(questions::spot_of(place))
 }
 
 // The place that argument i is.
@@ -164,9 +174,10 @@ fn read_asked(
     let Some(o) = read_options(rt, buffer)? else {
         return Ok(None);
     };
-    match questions::question_of(from, to, direction, t, o) {
+    match questions::question_of(from, to, Some(direction), t, o) {
         Ok(asked) => Ok(Some(asked)),
-        Err(why) => {
+        Err(NoQuestion::NoDirection) => Ok(None),
+        Err(NoQuestion::NoMoment(why)) => {
             say_no_moment(rt, quiet_arg(rt, buffer, 4), why)?;
             Ok(None)
         }

@@ -16,10 +16,7 @@ fn print_no_option(rt: &impl Print, arg: &[u8], why: NoOption) -> io::Result<()>
 pub fn with_option(rt: &impl Print, o: Options, arg: &[u8], i: usize) -> io::Result<Option<Options>>
     ensures { IfOk result (λ r. r ≡ read_of o (said_of arg.now) i) }
 {
-    let chosen = arguments::options::said_of(arg).and_then(|said| arguments::options::with_said(
-        o, said, i,
-    ));
-    match chosen {
+    match arguments::options::with_said(o, arguments::options::said_of(arg), i) {
         Ok(more) => Ok(Some(more)),
         Err(why) => {
             print_no_option(rt, arg, why)?;

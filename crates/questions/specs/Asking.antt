@@ -8,6 +8,7 @@ use Rattle.model.specs.declared.Walks.{Walks}
 use Rattle.model.specs.declared.Walks.TheVariants.{Unsaid, Allowed, Barred}
 use Rattle.model.specs.declared.Mode.{Mode}
 use Rattle.model.specs.declared.Mode.TheVariants.{Source, Rescan}
+use Rattle.arguments.specs.declared.bytes.NoNumber.{NoNumber}
 use Rattle.arguments.specs.declared.moment.NoMoment.{NoMoment}
 use Rattle.arguments.specs.declared.options.Options.{Options}
 use Rattle.arguments.specs.declared.place.Place.{Place}
@@ -16,11 +17,18 @@ use Rattle.arguments.specs.Moment.{Moment}
 use Rattle.arguments.specs.Word.{same}
 use Rattle.model.specs.declared.Direction.{Direction}
 use Rattle.model.specs.declared.Direction.TheVariants.{Departure, Arrival}
+use Rattle.questions.specs.declared.NoQuestion.{NoQuestion}
+use Rattle.questions.specs.declared.NoQuestion.TheVariants.{NoDirection, NoMoment as unmoved}
 use Rattle.questions.specs.declared.Question.{Question}
 
-abbrev pub spot_of : Place → Location
-spot_of (Stop n) = stop n
-spot_of (Area n) = area n
+abbrev pub location_of : Place → Location
+location_of (Stop n) = stop n
+location_of (Area n) = area n
+
+-- the place that an argument is, and nothing where it is none
+abbrev pub spot_of : Result Place NoNumber → Option Location
+spot_of (Ok p) = Some (location_of p)
+spot_of (Err e) = None
 
 -- `depart` and `arrive`, in ASCII
 abbrev pub depart_word : List ℕ
@@ -62,7 +70,16 @@ asks from to c o =
       bytes = o.bytes;
     }
 
+-- nothing is asked where there is no moment
+abbrev pub no_moment : NoMoment → NoQuestion
+no_moment e = unmoved e
+
 -- what is asked at a moment, or why there is no moment
-abbrev pub asked_for : Location → Location → Direction → Moment → Options → Result Question NoMoment
-asked_for from to d (Ok t) o = Ok (asks from to (time_for d t) o)
-asked_for from to d (Err e) o = Err e
+abbrev pub asked_toward : Location → Location → Direction → Moment → Options → Result Question NoQuestion
+asked_toward from to d (Ok t) o = Ok (asks from to (time_for d t) o)
+asked_toward from to d (Err e) o = Err (no_moment e)
+
+-- the same in the direction that an argument is, or that it is none
+abbrev pub asked_for : Location → Location → Option Direction → Moment → Options → Result Question NoQuestion
+asked_for from to (Some d) moment o = asked_toward from to d moment o
+asked_for from to None moment o = Err NoDirection

@@ -5,6 +5,7 @@ ghost use Rattle.std.specs.Prelude.{◌≡◌, ◌+◌};
 ghost use Rattle.arguments.specs.Moment.{fits};
 ghost use Rattle.questions.specs.Asking.{spot_of, direction_said, walks_for, mode_for, midnight_for, time_for, asks, asked_for};
 
+use arguments::bytes::NoNumber;
 use arguments::moment::NoMoment;
 use arguments::options::Options;
 use arguments::place::Place;
@@ -20,13 +21,31 @@ pub struct Question {
     pub bytes: bool,
 }
 
-// The place of the search that an argument's place is.
-pub fn spot_of(place: Place) -> Location
+// Why nothing is asked: an argument is no direction, or there is no moment.
+#[derive(Clone, Copy, Debug, PartialEq, Eq)]
+pub enum NoQuestion {
+    NoDirection,
+    NoMoment(NoMoment),
+}
+
+impl From<NoMoment> for NoQuestion {
+    ghost use Rattle.questions.specs.Asking.{no_moment};
+
+    ghost from_gives = { λ e q. q ≡ no_moment e };
+
+    fn from(e: NoMoment) -> NoQuestion {
+        NoQuestion::NoMoment(e)
+    }
+}
+
+// The place of the search that an argument's place is; none where the argument is no place.
+pub fn spot_of(place: Result<Place, NoNumber>) -> Option<Location>
     ensures { result ≡ spot_of place }
 {
     match place {
-        Place::Stop(n) => Location::Stop(n),
-        Place::Area(n) => Location::Area(n),
+        Ok(Place::Stop(n)) => Some(Location::Stop(n)),
+        Ok(Place::Area(n)) => Some(Location::Area(n)),
+        Err(_) => None,
     }
 }
 
@@ -98,16 +117,18 @@ fn asked_at(from: Location, to: Location, c: TimeConstraint, o: Options) -> Ques
     }
 }
 
-// What is asked between two places at the moment t: the options say which midnight that moment counts from, and it may not fit.
+// What is asked between two places at the moment t, in the direction that an argument is: the options say which midnight that moment counts
+// from, and it may not fit.
 pub fn question_of(
     from: Location,
     to: Location,
-    direction: Direction,
+    direction: Option<Direction>,
     t: u32,
     o: Options,
-) -> Result<Question, NoMoment>
+) -> Result<Question, NoQuestion>
     ensures { result ≡ asked_for from to direction (fits (t + midnight_for o)) o }
 {
+    let direction = direction.ok_or(NoQuestion::NoDirection)?;
     let moment = arguments::moment::moved(t, midnight_of(o))?;
     let c = constraint_of(direction, moment);
     Ok(asked_at(from, to, c, o))
