@@ -21,7 +21,9 @@ fn tell(rt: HostRuntime, ready: Ready<'_>, bytes: &[u8], asked: Question) -> io:
     let n = verdict_line::write_line(verdict, &mut text);
     print::text(&rt, &text[..n])?;
     match verdict {
-        Err(NoVerdict::Refused(refusal)) => refusing::print_meaning(&rt, ready, refusal, asked),
+        Err(NoVerdict::Refused(refusal)) => {
+            refusing::print_meaning(&rt, ready, refusal.into(), asked)
+        }
         _ => Ok(()),
     }
 }

@@ -1,6 +1,8 @@
 // Reads lines `net w0 w1 ..`, the words of flat tables, and prints for each the number that the check gives them: 0 for accepted tables.
 #![tactic(auto)]
 
+ghost use Rattle.std.specs.Prelude.{◌≤◌, IfOk, IfSome};
+
 use lines::Line;
 use std::io;
 
@@ -27,7 +29,10 @@ fn answer(rt: HostRuntime, words: &[u32], line: Line) -> io::Result<()> {
 }
 
 // Goes on with a block of bytes.
-fn feed_all(rt: HostRuntime, words: &mut [u32], line: Line, block: &[u8]) -> io::Result<Line> {
+fn feed_all(rt: HostRuntime, words: &mut [u32], line: Line, block: &[u8]) -> io::Result<Line>
+    requires { IfSome line.token (λ v. v ≤ 4294967296) }
+    ensures { IfOk result (λ l. IfSome l.token (λ v. v ≤ 4294967296)) }
+{
     let mut line = line;
     for b in block {
         line = line.step(words, *b);

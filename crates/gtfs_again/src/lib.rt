@@ -101,7 +101,7 @@ fn write_paths(
     t: Told,
 ) -> io::Result<()> {
     match gtfs_write_transfers::write_transfers(paths, t.split, out) {
-        Err(refusal) => gtfs_telling::print_refused(rt, refusal),
+        Err(refusal) => gtfs_telling::print_refused(rt, refusal.into()),
         Ok(size) => match out.get(..size) {
             Some(transfers) => read_again(rt, stop_times, transfers, times, paths, t),
             None => Ok(()),
@@ -119,7 +119,7 @@ fn write_both(
     t: Told,
 ) -> io::Result<()> {
     match gtfs_write_times::write_times(times, out) {
-        Err(refusal) => gtfs_telling::print_refused(rt, refusal),
+        Err(refusal) => gtfs_telling::print_refused(rt, refusal.into()),
         Ok(size) => match out.get(..size) {
             Some(stop_times) => write_paths(rt, stop_times, more, times, paths, t),
             None => Ok(()),

@@ -2,7 +2,6 @@
 #![tactic(auto)]
 
 use gtfs_read::{File, Told, Unfinished};
-use gtfs_write::Unwritten;
 use std::io;
 
 // "an unstated span is MAX"
@@ -52,6 +51,6 @@ pub fn print_counts(rt: &impl Print, t: Told) -> io::Result<()> {
 }
 
 // The number of a writer that wrote nothing.
-pub fn print_refused(rt: &impl Print, refusal: Unwritten) -> io::Result<()> {
-    println!(rt; "not written: {}", u32::from(refusal))
+pub fn print_refused(rt: &impl Print, number: u32) -> io::Result<()> {
+    println!(rt; "not written: {number}")
 }

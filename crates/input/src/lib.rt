@@ -3,14 +3,16 @@
 
 ghost use Rattle.std.specs.Prelude.{◌≤◌, length, IfOk, MatchResult};
 
-use std::io;
 use std::io::Read;
 
+// An input of which a read failed.
+#[derive(Clone, Copy, Debug, PartialEq, Eq)]
+pub struct Unreadable;
+
 // A read that failed, and how many bytes had been read before it.
-#[derive(Drop)]
+#[derive(Clone, Copy)]
 struct Cut {
     count: usize,
-    error: io::Error,
 }
 
 // Reads until the input ends, the buffer is full or a read fails: how many bytes were read.
@@ -23,17 +25,17 @@ fn fill(from: &mut impl Read, bytes: &mut [u8]) -> Result<usize, Cut>
         match from.read(&mut bytes[count..]) {
             Ok(0) => break,
             Ok(more) => count += more,
-            Err(error) => return Err(Cut { count, error }),
+            Err(_) => return Err(Cut { count }),
         }
     }
     Ok(count)
 }
 
 // Reads until the input ends, the buffer is full or a read fails: how many bytes were read.
-pub fn read_input(from: &mut impl Read, bytes: &mut [u8]) -> io::Result<usize>
+pub fn read_input(from: &mut impl Read, bytes: &mut [u8]) -> Result<usize, Unreadable>
     ensures { IfOk result (λ n. n ≤ length bytes.new) }
 {
-    fill(from, bytes).map_err(|cut| cut.error)
+    fill(from, bytes).map_err(|_| Unreadable)
 }
 
 // The same where a read that fails is the input's end.

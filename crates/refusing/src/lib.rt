@@ -1,9 +1,8 @@
-// What a refusal means, in words. An error is that of the write which failed.
+// The number of a refusal and what it means, in words. An error is that of the write which failed.
 #![tactic(auto)]
 
 pub mod meant; // meant.rt: which stops a place stands for, which place there is none of
 
-use model::Refusal;
 use network::Ready;
 use questions::Question;
 use std::io;
@@ -28,30 +27,31 @@ fn print_fault(rt: &impl Print, path: &[u8], fault: &str) -> io::Result<()> {
     println!(rt; " says where")
 }
 
-// What a refusal means, in document 01's words, and the line's end.
+// What the number of a refusal means, in document 01's words, and the line's end.
 pub fn print_meaning(
     rt: &impl Print,
     ready: Ready<'_>,
-    refusal: Refusal,
+    number: u32,
     asked: Question,
 ) -> io::Result<()> {
-    let fault = match refusal {
-        Refusal::Shape => "a count over its limit, a route without a stop, a slice of wrong length",
-        Refusal::Listing => "an index out of range, or a list breaking a listing rule",
-        Refusal::Times => {
+    let fault = match number {
+        1 => "a count over its limit, a route without a stop, a slice of wrong length",
+        2 => "an index out of range, or a list breaking a listing rule",
+        3 => {
             "a timetable moment outside 1 to 1,000,000; arrival after departure at a position; departure after the next position's arrival"
         }
-        Refusal::Order => "trips of a route out of order",
-        Refusal::Distances => {
-            "a distance that is NaN, below 0 or above 100,000; a stated transfer span above 86,400"
-        }
-        Refusal::Room => return println!(rt; ": a workspace slice of wrong length"),
-        Refusal::Place => {
+        4 => "trips of a route out of order",
+        6 => return println!(rt; ": a workspace slice of wrong length"),
+        7 => {
             print!(rt; ": a stop or area that does not exist")?;
             return meant::print_missing(rt, ready.tables, asked.query);
         }
-        Refusal::Moment => return print_outside(rt, asked.midnight),
-        Refusal::Barren => return println!(rt; ": an area without a served stop"),
+        8 => return print_outside(rt, asked.midnight),
+        9 => return println!(rt; ": an area without a served stop"),
+        // 5, which any other number is told as too
+        _ => {
+            "a distance that is NaN, below 0 or above 100,000; a stated transfer span above 86,400"
+        }
     };
     print_fault(rt, ready.path, fault)
 }

@@ -5,6 +5,8 @@
 mod probe;
 mod rust;
 
+ghost use Rattle.std.specs.Prelude.{◌≤◌, IfOk, IfSome};
+
 use lines::Line;
 use std::io;
 
@@ -32,7 +34,10 @@ fn answer(rt: HostRuntime, tables: &[u32], line: &[u32], name: Option<u64>) -> i
 }
 
 // What a line that has ended asks for.
-fn end(rt: HostRuntime, tables: &[u32], words: &[u32], at: At) -> io::Result<At> {
+fn end(rt: HostRuntime, tables: &[u32], words: &[u32], at: At) -> io::Result<At>
+    requires { IfSome at.line.token (λ v. v ≤ 4294967296) }
+    ensures { IfOk result (λ a. IfSome a.line.token (λ v. v ≤ 4294967296)) }
+{
     let line = at.line;
     if !line.ended {
         return Ok(at);
@@ -56,7 +61,10 @@ fn feed_all(
     words: &mut [u32],
     at: At,
     block: &[u8],
-) -> io::Result<At> {
+) -> io::Result<At>
+    requires { IfSome at.line.token (λ v. v ≤ 4294967296) }
+    ensures { IfOk result (λ a. IfSome a.line.token (λ v. v ≤ 4294967296)) }
+{
     let mut at = at;
     for b in block {
         at.line = if at.line.name == Some(NET) {

@@ -2,6 +2,8 @@
 // 2 unsaid; mode `s` or `r`; the bytes of the journey buffer, at most 4,096; fault 0 for a workspace of the right lengths, 1, 2, 3 for
 // words, marks, places that are one short. Before each query every slice is filled with sevens. Printed: number, time, stop, round, length;
 // then words, marks, places and journey, as `untouched` or by a digest of their contents.
+ghost use Rattle.std.specs.Prelude.{◌≤◌};
+
 use model::{Answer, Error, Query};
 use raptor::Lengths;
 use std::io;
@@ -20,7 +22,9 @@ fn print_answer(rt: HostRuntime, answer: Answer) -> io::Result<()> {
 }
 
 // A digest with one more word.
-fn mixed(sum: u32, word: u64) -> u32 {
+fn mixed(sum: u32, word: u64) -> u32
+    ensures { result ≤ 1000002 }
+{
     ((u64::from(sum) * 31 + word % 1000003) % 1000003) as u32
 }
 

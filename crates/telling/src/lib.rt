@@ -105,8 +105,9 @@ fn print_no_route(rt: &impl Print, time: TimeConstraint) -> io::Result<()> {
 fn print_error(rt: &impl Print, ready: Ready<'_>, error: Error, asked: Question) -> io::Result<()> {
     match error {
         Error::Refused(refusal) => {
-            print!(rt; "{}", u32::from(refusal))?;
-            refusing::print_meaning(rt, ready, refusal, asked)
+            let number = u32::from(refusal);
+            print!(rt; "{number}")?;
+            refusing::print_meaning(rt, ready, number, asked)
         }
         Error::NoRouteFound => {
             print_no_route(rt, asked.query.time)?;
