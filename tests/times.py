@@ -13,8 +13,8 @@ OLD = "discovery check_calls check_listing allocator explorer_rides raptor_round
 FEED = "csv_text numbers names columns feed gtfs_headers gtfs_lines gtfs_rows gtfs_paths gtfs_times gtfs_transfers gtfs_write gtfs_read gtfs_write_times gtfs_write_transfers gtfs_promises gtfs_c gtfs_telling gtfs_again gtfs".split()
 # The crates with more files of edits than two: how many, and why. None may have more than is said here.
 MORE = {
-    "model": (51, "edits of definitions: every worked network runs the whole search, so a refusal does not tell which of two is meant; two of functions stand beside one of them; a check takes 5 seconds"),
-    "handheld": (15, "edits of definitions: the worked verdicts run all of them, so a refusal does not tell which of two is meant; two of functions stand beside one of them; a check takes 3 seconds"),
+    "model": (52, "edits of definitions: every worked network runs the whole search, so a refusal does not tell which of two is meant; two of functions have a file; a check takes 5 seconds"),
+    "handheld": (16, "edits of definitions: the worked verdicts run all of them, so a refusal does not tell which of two is meant; two of functions have a file; a check takes 3 seconds"),
     "explorer": (3, "three edits of one file of definitions; a check takes 2 seconds"),
     "shared": (3, "three edits of distance_ok; a check takes 3 seconds"),
     "raptor_reply": (5, "five edits of its one function; a check takes 5 seconds"),
