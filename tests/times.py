@@ -14,10 +14,11 @@ FEED = "csv_text numbers names columns feed gtfs_headers gtfs_lines gtfs_rows gt
 # The crates with more files of edits than two: how many, and why. None may have more than is said here.
 MORE = {
     "model": (52, "edits of definitions: every worked network runs the whole search, so a refusal does not tell which of two is meant; two of functions have a file; a check takes 5 seconds"),
-    "handheld": (16, "edits of definitions: the worked verdicts run all of them, so a refusal does not tell which of two is meant; two of functions have a file; a check takes 3 seconds"),
+    "handheld": (15, "edits of definitions: the worked verdicts run all of them, so a refusal does not tell which of two is meant; a check takes 3 seconds"),
     "explorer": (3, "three edits of one file of definitions; a check takes 2 seconds"),
     "shared": (3, "three edits of distance_ok; a check takes 3 seconds"),
     "raptor_reply": (5, "five edits of its one function; a check takes 5 seconds"),
+    "allocator": (3, "one edit of the definition by which the contracts of the operations speak, and laws of it speak of what another changes"),
     "path": (4, "two edits of one definition, and three of a file of definitions, of which what is left speaks too; a check takes 9 seconds"),
     "check_listing": (3, "two edits of marked_once, and one of a definition of which it speaks"),
     "check_times": (4, "three edits of time_ok, and one of a definition of which it speaks"),

@@ -57,6 +57,11 @@ pub becomes_unique : (f : Work → Work) {w w' w'' : Workspace} → Becomes f w 
     → (w'.words.now ≡ w''.words.now) × (w'.marks.now ≡ w''.marks.now)
 becomes_unique f a b = does_unique f (becomes_does a) (becomes_does b)
 
+-- so no second workspace that `clear_marks` leaves, of whose contract this is the clause
+pub clear_marks_once : {w w' w'' : Workspace} → Becomes (unmarked w.stops) w w' → Becomes (unmarked w.stops) w w''
+    → (w'.words.now ≡ w''.words.now) × (w'.marks.now ≡ w''.marks.now)
+clear_marks_once {w} a b = becomes_unique (unmarked w.stops) a b
+
 -- and what `Workspace::new` makes of the words and marks that it is lent is one thing
 pub over_unique : {words marks : MutBor (List ℕ)} {stops routes : ℕ} {x : Work} {w w' : Workspace}
     → state w ≡ x → Over words marks stops routes w

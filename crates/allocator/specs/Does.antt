@@ -1,4 +1,5 @@
--- What an operation finds and leaves: the handle by which all contracts above speak of the workspace.
+-- What an operation finds and leaves, over words and marks. Contracts speak of a workspace that is a value, by `Becomes` (specs/Workspace.antt), from
+-- which `becomes_does` of proofs/Unique.antt gives `Does`; a workspace always says `Usable`.
 use Rattle.std.specs.Prelude.{ℕ, List, ◌≡◌}
 use Rattle.model.specs.Work.{Work}
 use Rattle.allocator.specs.Layout.{Sized, view}

@@ -318,7 +318,7 @@ fn put_leg(words: &mut [u32], i: usize, g: Leg)
 }
 
 // ---- the operations. Each leaves a workspace that holds nothing beside the state, so the state that it leaves is all that there is to
-// say (`does_unique`).
+// say (`becomes_unique`).
 impl<'a> Workspace<'a> {
     ghost use Rattle.allocator.specs.Workspace.{state, prev, curr, best, held_labels, active, mark, held_mark, mask, Becomes, Over};
 

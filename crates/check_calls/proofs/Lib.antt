@@ -5,3 +5,4 @@ pub mod CallRows
 pub mod Rooms
 pub mod Entries
 pub mod Halved
+pub mod Parts

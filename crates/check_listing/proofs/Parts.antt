@@ -56,6 +56,9 @@ module _ (w : List ℕ) where
   framed_so h t = rw (six_so (stop_list w) (stations w) (children w) (route_stops w) (route_trips w) (trip_times w) h) t
 
 -- ---- what a later part asks of an earlier one
+pub trips_passed : (w : List ℕ) {a : Bool} → a ≡ route_trips w → a ≡ true → route_trips w ≡ true
+trips_passed w e t = sym e ∙ t
+
 pub stops_passed : (w : List ℕ) {a : Bool} → a ≡ framed w → a ≡ true → route_stops w ≡ true
 stops_passed w e t = (framed_parts w (sym e ∙ t)).fourth
 

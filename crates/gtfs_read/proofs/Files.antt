@@ -1,7 +1,7 @@
 -- The two files together: what each of them tells and leaves is what both do.
 -- Assumes nothing.
 use Prim.Native.Nat.{ℕ, ◌≤◌}
-use mathlib.Core.Path.{◌≡◌, refl, ap, subst, ◌∙◌}
+use mathlib.Core.Path.{◌≡◌, refl, sym, ap, subst, ◌∙◌}
 use mathlib.Core.Bool.{true, false}
 use mathlib.Core.List.{List}
 use lib.ListN.{length}
@@ -11,7 +11,8 @@ use Rattle.names.specs.Book.{names_in}
 use Rattle.names.specs.Booked.{Booked}
 use Rattle.names.proofs.Booking.{booked_turn}
 use Rattle.feed.specs.declared.Room.{Room}
-use Rattle.std.specs.Prelude.{is_err}
+use Rattle.feed.specs.declared.Unread.TheVariants.{Bad}
+use Rattle.std.specs.Prelude.{Err, is_err}
 use Rattle.gtfs_read.specs.declared.File.TheVariants.{StopTimes, Transfers}
 use Rattle.feed.specs.Feed.{End, done, bad_times, bad_transfers, full}
 use Rattle.feed.specs.Times.{read_times}
@@ -36,6 +37,19 @@ ends_second (bad_times _) x'' = elim x'' [ ]
 ends_second (bad_transfers k) (OfTransfers.bad_line j) = refl
 ends_second full OfTransfers.no_room = refl
 
+-- so what is told of both files under an ending of the second
+told_is : (first : TimesTold) (second : TransfersTold) (z : End) → OfTransfers z → second.ending ≡ ending_of z
+    → told_both first second
+    ≡ record {
+      ending = ended_as z;
+      stops = second.stops;
+      split = first.stops;
+      trips = first.trips;
+      times = first.times;
+      transfers = second.transfers;
+    }
+told_is first second z o e = rw (e, ends_second z o)
+
 ends_first : (z : End) → OfTimes z → ended_in StopTimes (ending_of z) ≡ ended_as z
 unfolding ended_in ending_of ended_as
 ends_first done OfTimes.all = refl
@@ -48,6 +62,16 @@ module _ (room : Room) (a b : List ℕ) {first : TimesTold} (f : first ≡ times
   first_ended : first.ending ≡ ending_of (read_times room (lines (without_mark a))).end
   unfolding times_told
   first_ended = ap (λ (t : TimesTold). t.ending) f
+
+  is_bad : {k : ℕ} → first.ending ≡ Err (Bad k) → (read_times room (lines (without_mark a))).end ≡ bad_times k
+  unfolding ending_of
+  is_bad {k} q = go (read_times room (lines (without_mark a))).end (of_times room (lines (without_mark a))) (sym first_ended ∙ q)
+    where
+      go : (z : End) → OfTimes z → ending_of z ≡ Err (Bad k) → z ≡ bad_times k
+      go done OfTimes.all w = cc
+      go (bad_transfers _) x3 w = elim x3 [ ]
+      go (bad_times j) (OfTimes.bad_line j') w = let n : j ≡ k = cc in ap bad_times n
+      go full OfTimes.no_room w = cc
 
   -- then the second is not read
   stays : is_err first.ending ≡ true → read_feed room a b ≡ read_times room (lines (without_mark a))

@@ -2,8 +2,6 @@
 // specs/, what is promised of it in proofs/; the code that decides it is in `judge`.
 #![tactic(auto)]
 
-ghost use Rattle.std.specs.Prelude.{◌≡◌};
-
 use journey::BadLeg;
 use model::Refusal;
 
@@ -18,26 +16,6 @@ pub enum NoVerdict {
     Bad(BadLeg),
     // 1 to 5, 7, 8, 9
     Refused(Refusal),
-}
-
-impl From<BadLeg> for NoVerdict {
-    ghost use Rattle.handheld.specs.declared.NoVerdict.TheVariants.{Bad};
-
-    ghost from_gives = { λ b v. v ≡ Bad b };
-
-    fn from(b: BadLeg) -> NoVerdict {
-        NoVerdict::Bad(b)
-    }
-}
-
-impl From<Refusal> for NoVerdict {
-    ghost use Rattle.handheld.specs.declared.NoVerdict.TheVariants.{Refused};
-
-    ghost from_gives = { λ r v. v ≡ Refused r };
-
-    fn from(r: Refusal) -> NoVerdict {
-        NoVerdict::Refused(r)
-    }
 }
 
 // Where legs have led: at which stop one is since when, with how many rides, and whether the last leg was one.

@@ -99,6 +99,11 @@ module _ (n : Net) (q : Query) (b : List ℕ) {r : Option (Result Leg BadLeg)} (
       rw (d, read_end)
 
 -- ---- what the depot is told
+-- what is no Err is an Ok
+pub not_err : {T E : Type 0} (r : Result T E) → ((x : E) → r ≡ Err x → ⊥) → (v : T) × (r ≡ Ok v)
+not_err (Ok v) h = (v, refl)
+not_err (Err x) h = absurd (h x refl)
+
 -- a refusal by its number
 refused : {r : Result (Unit {0}) Refusal} {x : Refusal} {k : ℕ} → number_given r ≡ k → r ≡ Err x → (0 < k) × (refusal_of k ≡ x)
 refused {x = x} e f =

@@ -9,13 +9,15 @@ ghost use Rattle.repository.specs.Accepted.{Accepted};
 ghost use Rattle.repository.specs.Checked.{check_of};
 ghost use Rattle.repository.specs.NetOf.{net_of};
 ghost use Rattle.journey.specs.Reading.{leg_from};
+ghost use Rattle.handheld.specs.declared.NoVerdict.TheVariants.{Bad, Refused};
 ghost use Rattle.handheld.specs.Right.{soonest as soonest_of};
 ghost use Rattle.handheld.specs.Verdict.{may_begin, may_end, comes_in};
 ghost use Rattle.handheld.specs.Judged.{judged};
 ghost use Rattle.judge.specs.Places.{HasPlaces, verdict_on};
 
-use handheld::{Led, Verdict};
-use model::{Leg, Query, TimeConstraint};
+use handheld::{Led, NoVerdict, Verdict};
+use journey::BadLeg;
+use model::{Leg, Query, Refusal, TimeConstraint};
 
 // The moment before which the first leg may not leave: any, where an arrival is asked for.
 #[tactic(auto, unfolding(handheld::specs::Right::soonest))]
@@ -93,13 +95,31 @@ fn is_right(tables: &[u32], bytes: &[u8], q: Query) -> bool
     }
 }
 
+// What is told of a bad leg.
+fn told_bad(b: BadLeg) -> NoVerdict
+    ensures { result ≡ Bad b }
+{
+    NoVerdict::Bad(b)
+}
+
+// What is told of a refusal.
+fn told_refused(r: Refusal) -> NoVerdict
+    ensures { result ≡ Refused r }
+{
+    NoVerdict::Refused(r)
+}
+
 // `judge`, for tables that `check` found no fault in.
 pub fn judge_checked(tables: &[u32], bytes: &[u8], q: Query) -> Verdict
     requires { Accepted tables.now }
     ensures { result ≡ judged (check_of tables.now) (net_of tables.now) q bytes.now }
 {
-    raptor_query::refusal(tables, q)?;
-    journey::read(bytes)?;
+    if let Err(refusal) = raptor_query::refusal(tables, q) {
+        return Err(told_refused(refusal));
+    }
+    if let Err(bad) = journey::read(bytes) {
+        return Err(told_bad(bad));
+    }
     Ok(is_right(tables, bytes, q))
 }
 
@@ -107,6 +127,8 @@ pub fn judge_checked(tables: &[u32], bytes: &[u8], q: Query) -> Verdict
 pub fn judge(tables: &[u32], bytes: &[u8], q: Query) -> Verdict
     ensures { result ≡ judged (check_of tables.now) (net_of tables.now) q bytes.now }
 {
-    check_tables::check(tables)?;
+    if let Err(fault) = check_tables::check(tables) {
+        return Err(told_refused(fault));
+    }
     judge_checked(tables, bytes, q)
 }
