@@ -1,2 +1,3 @@
--- A law on tables that pass the check.
+-- Laws that belong to no one function.
 pub mod Passed
+pub mod Parts
