@@ -50,10 +50,15 @@ enum Open {
     // a space or a line's end stands before it
     Nothing,
     Number(u32),
-    // `n`, `ne` and `net`, which only a file's first word may be
+    // a part of `net`, which only a file's first word may be, up to this letter
+    Net(Letter),
+}
+
+#[derive(Clone, Copy)]
+enum Letter {
     N,
-    Ne,
-    Net,
+    E,
+    T,
 }
 
 // What is known of the file so far: how many words are stored, and what is open.
@@ -64,67 +69,68 @@ struct Words {
 }
 
 impl Words {
-    // The same words with something open.
-    fn opened(self, open: Open) -> Words {
-        Words {
-            count: self.count,
-            open,
+    // Stores an open number.
+    #[inline(always)]
+    fn store(&mut self, tables: &mut [u32], number: u32) -> Result<(), Fault> {
+        if tables.len() <= self.count {
+            return Err(Fault::TooMany(self.count));
+        }
+        tables[self.count] = number;
+        self.count += 1;
+        self.open = Open::Nothing;
+        Ok(())
+    }
+
+    // Closes what is open: by a space, a line's end or the file's.
+    #[inline(always)]
+    fn close(&mut self, tables: &mut [u32]) -> Result<(), Fault> {
+        match self.open {
+            Open::First | Open::Nothing => Ok(()),
+            Open::Number(number) => self.store(tables, number),
+            Open::Net(Letter::T) => {
+                self.open = Open::Nothing;
+                Ok(())
+            }
+            Open::Net(_) => Err(Fault::NoNumber(self.count)),
         }
     }
-}
 
-// The words with an open number stored.
-fn stored(tables: &mut [u32], count: usize, number: u32) -> Result<Words, Fault> {
-    if tables.len() <= count {
-        return Err(Fault::TooMany(count));
+    // Goes on with a byte that is no digit: one of `net`, or what a timetable begins with.
+    fn letter(&mut self, b: u8) -> Result<(), Fault> {
+        self.open = match (self.open, b) {
+            (Open::First, b'n') => Open::Net(Letter::N),
+            (Open::Net(Letter::N), b'e') => Open::Net(Letter::E),
+            (Open::Net(Letter::E), b't') => Open::Net(Letter::T),
+            (Open::First, b'#' | b'a'..=b'z') => return Err(Fault::Timetable),
+            _ => return Err(Fault::NoNumber(self.count)),
+        };
+        Ok(())
     }
-    tables[count] = number;
-    Ok(Words {
-        count: count + 1,
-        open: Open::Nothing,
-    })
-}
 
-// The words with what is open closed: by a space, a line's end or the file's.
-fn close(tables: &mut [u32], w: Words) -> Result<Words, Fault> {
-    match w.open {
-        Open::First | Open::Nothing => Ok(w),
-        Open::Number(number) => stored(tables, w.count, number),
-        Open::Net => Ok(w.opened(Open::Nothing)),
-        Open::N | Open::Ne => Err(Fault::NoNumber(w.count)),
+    // Goes on with a digit.
+    #[inline(always)]
+    fn digit(&mut self, b: u8) -> Result<(), Fault> {
+        let value = match self.open {
+            Open::First | Open::Nothing => 0,
+            Open::Number(value) => value,
+            Open::Net(_) => return Err(Fault::NoNumber(self.count)),
+        };
+        let longer = arguments::bytes::longer(value, b);
+        if longer > u64::from(u32::MAX) {
+            return Err(Fault::TooLarge(self.count));
+        }
+        self.open = Open::Number(longer as u32);
+        Ok(())
     }
-}
 
-// The words with one more byte that is no digit: one of `net`, or what a timetable begins with.
-fn letter(w: Words, b: u8) -> Result<Words, Fault> {
-    match (w.open, b) {
-        (Open::First, b'n') => Ok(w.opened(Open::N)),
-        (Open::N, b'e') => Ok(w.opened(Open::Ne)),
-        (Open::Ne, b't') => Ok(w.opened(Open::Net)),
-        (Open::First, b'#' | b'a'..=b'z') => Err(Fault::Timetable),
-        _ => Err(Fault::NoNumber(w.count)),
-    }
-}
-
-// The words with one more digit.
-fn digit(w: Words, b: u8) -> Result<Words, Fault> {
-    let value = match w.open {
-        Open::First | Open::Nothing => 0,
-        Open::Number(value) => value,
-        Open::N | Open::Ne | Open::Net => return Err(Fault::NoNumber(w.count)),
-    };
-    match u32::try_from(arguments::bytes::longer(value, b)) {
-        Ok(longer) => Ok(w.opened(Open::Number(longer))),
-        Err(_) => Err(Fault::TooLarge(w.count)),
-    }
-}
-
-// Goes on with one more byte.
-fn feed(tables: &mut [u32], w: Words, b: u8) -> Result<Words, Fault> {
-    match b {
-        b' ' | b'\n' | b'\r' => close(tables, w),
-        b'0'..=b'9' => digit(w, b),
-        _ => letter(w, b),
+    // Goes on with one more byte. The steps are small, and are made where they are taken: a file has many bytes.
+    #[inline(always)]
+    fn feed(&mut self, tables: &mut [u32], b: u8) -> Result<(), Fault> {
+        match b {
+            b' ' | b'\n' | b'\r' => self.close(tables),
+            b'0'..=b'9' => self.digit(b),
+            _ => self.letter(b),
+        }
     }
 }
 
@@ -132,7 +138,7 @@ fn feed(tables: &mut [u32], w: Words, b: u8) -> Result<Words, Fault> {
 fn feed_all(tables: &mut [u32], words: Words, block: &[u8]) -> Result<Words, Fault> {
     let mut w = words;
     for b in block {
-        w = feed(tables, w, *b)?;
+        w.feed(tables, *b)?;
     }
     Ok(w)
 }
@@ -152,7 +158,8 @@ fn read_all(file: &mut impl Read, tables: &mut [u32]) -> Result<usize, Fault> {
             Err(_) => return Err(Fault::Unread),
         }
     }
-    Ok(close(tables, w)?.count)
+    w.close(tables)?;
+    Ok(w.count)
 }
 
 // Puts the words of the file into the tables: how many they are. A name that is no UTF-8 is that of no file that can be read.
