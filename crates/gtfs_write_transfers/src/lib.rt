@@ -27,10 +27,10 @@ const UNSTATED: u32 = 4_294_967_295;
 fn span_fits(kind: u32, span: u32) -> bool
     ensures { result ≡ fits_span kind span }
 {
-    if kind == 2 {
-        span < UNSTATED
-    } else {
-        kind <= 5 && span == UNSTATED
+    match kind {
+        2 => span < UNSTATED,
+        0..=5 => span == UNSTATED,
+        _ => false,
     }
 }
 

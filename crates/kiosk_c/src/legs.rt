@@ -22,13 +22,13 @@ pub fn kiosk_read(bytes: &[u8], told: &mut [u64]) -> u32
     match journey::read(bytes) {
         Ok(count) => {
             told[0] = count as u64;
-            0
         }
         Err(bad) => {
             told[0] = bad.at as u64;
-            BAD_LEG
+            return BAD_LEG; // not the value of the `match`, which would be set at each leg
         }
     }
+    0
 }
 
 // The leg that starts at an offset: how many bytes it takes, 0 where no byte is left there, 13 where it is none; 6 where there are not six
