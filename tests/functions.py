@@ -23,6 +23,7 @@ OUTSIDE = {
     "replay::rust::answer_line": PRINTS,
     "input::read_full": READS,
     "input::read_input": READS,
+    "input::read_or_unreadable": READS,
     "loading::FaultDisplay::fmt": PRINTS,
     "loading::load": READS,
     "loading::print_fault": PRINTS,

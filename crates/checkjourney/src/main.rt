@@ -31,7 +31,7 @@ fn tell(rt: HostRuntime, ready: Ready<'_>, bytes: &[u8], asked: Question) -> io:
 // The verdict on what is on standard input.
 fn tell_input(rt: HostRuntime, ready: Ready<'_>, asked: Question) -> io::Result<()> {
     let mut bytes = [0u8; MOST + 1];
-    match input::read_input(&mut rt.stdin(), &mut bytes) {
+    match input::read_or_unreadable(&mut rt.stdin(), &mut bytes) {
         Ok(n) if n <= MOST => tell(rt, ready, &bytes[..n], asked),
         Ok(_) => println!(rt;
             "the input has more than {MOST} bytes, and this program has no room for more: link the library (see README)"

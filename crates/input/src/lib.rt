@@ -3,20 +3,27 @@
 
 ghost use Rattle.std.specs.Prelude.{◌≤◌, length, IfOk, MatchResult};
 
+use std::io;
 use std::io::Read;
 
 // An input of which a read failed.
 #[derive(Clone, Copy, Debug, PartialEq, Eq)]
 pub struct Unreadable;
 
-// A read that failed, and how many bytes had been read before it.
+// A read that failed: how many bytes had been read before it, and what is told of its error.
 #[derive(Clone, Copy)]
-struct Cut {
+struct Cut<E> {
     count: usize,
+    error: E,
 }
 
 // Reads until the input ends, the buffer is full or a read fails: how many bytes were read.
-fn fill(from: &mut impl Read, bytes: &mut [u8]) -> Result<usize, Cut>
+fn fill<E, F: Fn(io::Error) -> E>(
+    from: &mut impl Read,
+    bytes: &mut [u8],
+    told: F,
+) -> Result<usize, Cut<E>>
+    requires { F.IsAlwaysCallable told }
     ensures { MatchResult result (λ n. n ≤ length bytes.new) (λ cut. cut.count ≤ length bytes.new) }
 {
     let mut count = 0;
@@ -25,22 +32,37 @@ fn fill(from: &mut impl Read, bytes: &mut [u8]) -> Result<usize, Cut>
         match from.read(&mut bytes[count..]) {
             Ok(0) => break,
             Ok(more) => count += more,
-            Err(_) => return Err(Cut { count }),
+            Err(error) => {
+                return Err(Cut {
+                    count,
+                    error: told(error),
+                });
+            }
         }
     }
     Ok(count)
 }
 
 // Reads until the input ends, the buffer is full or a read fails: how many bytes were read.
-pub fn read_input(from: &mut impl Read, bytes: &mut [u8]) -> Result<usize, Unreadable>
+pub fn read_input(from: &mut impl Read, bytes: &mut [u8]) -> io::Result<usize>
     ensures { IfOk result (λ n. n ≤ length bytes.new) }
 {
-    fill(from, bytes).map_err(|_| Unreadable)
+    fill(from, bytes, |error| error).map_err(|cut| cut.error)
+}
+
+// The same where it is not told why a read failed.
+pub fn read_or_unreadable(from: &mut impl Read, bytes: &mut [u8]) -> Result<usize, Unreadable>
+    ensures { IfOk result (λ n. n ≤ length bytes.new) }
+{
+    fill(from, bytes, |_| Unreadable).map_err(|cut| cut.error)
 }
 
 // The same where a read that fails is the input's end.
 pub fn read_full(from: &mut impl Read, bytes: &mut [u8]) -> usize
     ensures { result ≤ length bytes.new }
 {
-    fill(from, bytes).unwrap_or_else(|cut| cut.count)
+    fill(from, bytes, |_| Unreadable).unwrap_or_else(|cut| cut.count)
 }
+
+#[cfg(test)]
+mod tests; // tests.rt: which bytes are read, and which error is told

@@ -16,7 +16,7 @@ fn show(rt: HostRuntime, bytes: &[u8]) -> io::Result<()> {
 
 fn main(rt: HostRuntime) -> io::Result<()> {
     let mut bytes = [0u8; 4097];
-    match input::read_input(&mut rt.stdin(), &mut bytes) {
+    match input::read_or_unreadable(&mut rt.stdin(), &mut bytes) {
         Ok(n) if n <= 4096 => show(rt, &bytes[..n]),
         Ok(_) => println!(rt; "long"),
         Err(_) => println!(rt; "unreadable"),
