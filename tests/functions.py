@@ -250,8 +250,14 @@ def complain(what):
     print(what)
 
 
+def of_tests(path):
+    """Whether a file is a module of tests, which no other crate can name: the root of its crate says so."""
+    root = f"{os.path.dirname(path)}/lib.rt"
+    return os.path.exists(root) and re.search(rf"^#\[cfg\(test\)\]\nmod {os.path.basename(path)[:-3]};", text_of(os.path.relpath(root, HERE)), re.M)
+
+
 NEEDS = needs()
-FILES = {c: sorted(os.path.relpath(p, HERE) for p in glob.glob(f"{HERE}/crates/{c}/src/*.rt")) for c in crates()}
+FILES = {c: sorted(os.path.relpath(p, HERE) for p in glob.glob(f"{HERE}/crates/{c}/src/*.rt") if not of_tests(p)) for c in crates()}
 FUNCTIONS = {c: [f for p in FILES[c] for f in every_function(p)] for c in FILES}
 STRUCTS = {}
 for paths in FILES.values():

@@ -223,6 +223,7 @@ MUTATIONS = [
     ("one of a trait with a law, and no law", lambda: sub("crates/gtfs_read/src/lib.rt", "    ghost from_gives = { λ file number. number ≡ file_number file };\n", ""), True, FUNCTIONS, "gtfs_read::U32FromFile::from states nothing"),
     ("one whose law bounds its result", lambda: sub("crates/gtfs_read/src/lib.rt", "number ≡ file_number file", "number ≤ file_number file"), True, FUNCTIONS, "gtfs_read::U32FromFile::from leaves open its result"),
     ("one whose law does not say where it goes on", lambda: sub("crates/print/specs/Whole.antt", " × (s.rest.now ≡ bytes_behind r.rest.now given)", ""), True, FUNCTIONS, "print::WholeLegsIterator::next does not say what it leaves in self"),
+    ("one in a module that is called as tests are", lambda: sub("crates/input/src/lib.rt", "#[cfg(test)]\nmod tests;", "mod tests;"), True, FUNCTIONS, "input::tests::HaltingRead::read states nothing"),
     ("a method of a trait left off the page", lambda: write("docs/FUNCTIONS.md", re.sub(r"^\| `telling::StayDisplay::fmt`.*\n", "", read("docs/FUNCTIONS.md"), flags=re.M)), False, FUNCTIONS, "is not what tests/functions.py writes"),
     ("a public function for C that states nothing", added("crates/kiosk_c/src/lib.rt", '#[unsafe(no_mangle)]\npub extern "C" fn kiosk_more() -> u32 {\n    0\n}\n'), True, FUNCTIONS, "kiosk_c::kiosk_more states nothing"),
     *(
