@@ -10,20 +10,15 @@ use std::io::Read;
 #[derive(Clone, Copy, Debug, PartialEq, Eq)]
 pub struct Unreadable;
 
-// A read that failed: how many bytes had been read before it, and what is told of its error.
+// A read that failed, and how many bytes had been read before it.
 #[derive(Clone, Copy)]
-struct Cut<E> {
+struct Cut {
     count: usize,
-    error: E,
+    error: io::Error,
 }
 
 // Reads until the input ends, the buffer is full or a read fails: how many bytes were read.
-fn fill<E, F: Fn(io::Error) -> E>(
-    from: &mut impl Read,
-    bytes: &mut [u8],
-    told: F,
-) -> Result<usize, Cut<E>>
-    requires { F.IsAlwaysCallable told }
+fn fill(from: &mut impl Read, bytes: &mut [u8]) -> Result<usize, Cut>
     ensures { MatchResult result (λ n. n ≤ length bytes.new) (λ cut. cut.count ≤ length bytes.new) }
 {
     let mut count = 0;
@@ -32,12 +27,7 @@ fn fill<E, F: Fn(io::Error) -> E>(
         match from.read(&mut bytes[count..]) {
             Ok(0) => break,
             Ok(more) => count += more,
-            Err(error) => {
-                return Err(Cut {
-                    count,
-                    error: told(error),
-                });
-            }
+            Err(error) => return Err(Cut { count, error }),
         }
     }
     Ok(count)
@@ -47,21 +37,21 @@ fn fill<E, F: Fn(io::Error) -> E>(
 pub fn read_input(from: &mut impl Read, bytes: &mut [u8]) -> io::Result<usize>
     ensures { IfOk result (λ n. n ≤ length bytes.new) }
 {
-    fill(from, bytes, |error| error).map_err(|cut| cut.error)
+    fill(from, bytes).map_err(|cut| cut.error)
 }
 
 // The same where it is not told why a read failed.
 pub fn read_or_unreadable(from: &mut impl Read, bytes: &mut [u8]) -> Result<usize, Unreadable>
     ensures { IfOk result (λ n. n ≤ length bytes.new) }
 {
-    fill(from, bytes, |_| Unreadable).map_err(|cut| cut.error)
+    fill(from, bytes).map_err(|_| Unreadable)
 }
 
 // The same where a read that fails is the input's end.
 pub fn read_full(from: &mut impl Read, bytes: &mut [u8]) -> usize
     ensures { result ≤ length bytes.new }
 {
-    fill(from, bytes, |_| Unreadable).unwrap_or_else(|cut| cut.count)
+    fill(from, bytes).unwrap_or_else(|cut| cut.count)
 }
 
 #[cfg(test)]
