@@ -114,6 +114,7 @@ def fill():
     if not kit:
         sys.exit("letter.py: rt is not at hand")
     if not standing.marked():
+        standing.clear()
         if subprocess.run([RT, "ci"], stdout=sys.stderr).returncode != 0:
             sys.exit("letter.py: rt ci did not end well")
         standing.mark()

@@ -1,6 +1,7 @@
 #!/usr/bin/env python3
 # What is proved and built, and what is made of it. `rt ci` leaves the programs and the libraries that it built in crates/NAME/out, and keeps no word of which texts
 # they are of; `mark` writes that down, in target/ci. So what comes after it takes them as they stand; where a text has changed since, `rt` proves and builds anew.
+#   proved.py clear                before an `rt ci`: it lays a library only where none stands, so one of an earlier text would stay
 #   proved.py mark                 after an `rt ci` that passed
 #   proved.py program NAME         a program, crates/NAME/out/NAME. Each crate that is proved for it is said as it comes, on the error stream
 #   proved.py archive NAME OUT.a MODULE.bc      a static library, and the LLVM module that it is compiled from
@@ -80,6 +81,11 @@ def alone():
 
 def program_of(name):
     return f"crates/{name}/out/{name}"
+
+
+def clear():
+    for name in crates():
+        shutil.rmtree(path("crates", name, "out/rlib"), ignore_errors=True)
 
 
 def mark():
@@ -191,7 +197,9 @@ def archive(name, out, module):
 
 
 def main(verb="", *given):
-    if verb == "mark" and not given:
+    if verb == "clear" and not given:
+        clear()
+    elif verb == "mark" and not given:
         mark()
     elif verb == "sum" and not given:
         print(sum_of(crates()))
